@@ -1,0 +1,17 @@
+pub mod Ring
+pub mod Polynomial
+pub mod Solver
+pub mod Power
+pub mod Binomial
+pub mod ZMod
+pub mod Extension
+pub mod Field
+pub mod ExtensionField
+pub mod Prime
+pub mod PrimeField
+pub mod M31
+pub mod Tower
+pub mod Circle
+pub mod Frobenius
+pub mod Generator
+pub mod Homomorphism

@@ -1,0 +1,7 @@
+pub mod Refusal
+pub mod Words
+pub mod M31
+pub mod Elements
+pub mod Inverse
+pub mod Squarings
+pub mod Signed

@@ -1,0 +1,76 @@
+-- What each call of M31 answers: the refusals of document 01's table in its order, then arithmetic modulo P.
+use Prim.Native.Nat.{ℕ, suc, _*_, _%_, _^_}
+use mathlib.Core.Bool.{cond}
+use lib.Dec.{leb, eqb}
+use lib.IntN.{ℤ, pos, negsuc}
+use Rattle.algebra.specs.M31.{P}
+use Rattle.fields.specs.Words.{addP, subP, negP, mulP, powP, invP}
+use Rattle.fields.specs.declared.m31.M31.{M31}
+use Rattle.fields.specs.declared.m31.M31Answer.{M31Answer}
+use Rattle.fields.specs.declared.m31.M31Answer.the-variants.{Value, Refused}
+use Rattle.fields.specs.declared.answer.BoolAnswer.{BoolAnswer}
+use Rattle.fields.specs.declared.answer.BoolAnswer.the-variants as B
+use Rattle.fields.specs.declared.refusal.Refusal.the-variants.{Word, Reduction, Inverse}
+
+-- the M31 of a word
+abbrev pub ofWord : ℕ → M31
+ofWord word = record { 0 = word }
+
+-- the answer where the word of a is below P, else number 1
+abbrev pub checked : M31 → M31Answer → M31Answer
+checked a answer = cond (leb P (a .0)) (Refused (Word 0)) answer
+
+-- the answer where a isn't zero, else number 3
+abbrev pub nonzero : M31 → M31Answer → M31Answer
+nonzero a answer = cond (eqb (a .0) 0) (Refused (Inverse 0)) answer
+
+-- an integer modulo P; negsuc n is - (n + 1)
+abbrev pub residueOf : ℤ → ℕ
+residueOf (pos n) = n % P
+residueOf (negsuc n) = negP (suc n)
+
+-- number 2 from 2P on
+unfoldable pub partialReduceAnswer : ℕ → M31Answer
+partialReduceAnswer n = cond (leb (2 * P) n) (Refused Reduction) (Value (ofWord (n % P)))
+
+-- number 2 from P² on
+unfoldable pub reduceAnswer : ℕ → M31Answer
+reduceAnswer n = cond (leb (P * P) n) (Refused Reduction) (Value (ofWord (n % P)))
+
+unfoldable pub fromWordAnswer : ℕ → M31Answer
+fromWordAnswer word = checked (ofWord word) (Value (ofWord word))
+
+unfoldable pub isZeroAnswer : M31 → BoolAnswer
+isZeroAnswer a = cond (leb P (a .0)) (B.Refused (Word 0)) (B.Value (eqb (a .0) 0))
+
+unfoldable pub addAnswer : M31 → M31 → M31Answer
+addAnswer a b = checked a (checked b (Value (ofWord (addP (a .0) (b .0)))))
+
+unfoldable pub subAnswer : M31 → M31 → M31Answer
+subAnswer a b = checked a (checked b (Value (ofWord (subP (a .0) (b .0)))))
+
+unfoldable pub negAnswer : M31 → M31Answer
+negAnswer a = checked a (Value (ofWord (negP (a .0))))
+
+unfoldable pub mulAnswer : M31 → M31 → M31Answer
+mulAnswer a b = checked a (checked b (Value (ofWord (mulP (a .0) (b .0)))))
+
+unfoldable pub squareAnswer : M31 → M31Answer
+squareAnswer a = checked a (Value (ofWord (mulP (a .0) (a .0))))
+
+unfoldable pub powAnswer : M31 → ℕ → M31Answer
+powAnswer a n = checked a (Value (ofWord (powP (a .0) n)))
+
+-- n squarings
+unfoldable pub sqnAnswer : M31 → ℕ → M31Answer
+sqnAnswer a n = checked a (Value (ofWord (powP (a .0) (2 ^ n))))
+
+unfoldable pub inverseAnswer : M31 → M31Answer
+inverseAnswer a = checked a (nonzero a (Value (ofWord (invP (a .0)))))
+
+unfoldable pub divAnswer : M31 → M31 → M31Answer
+divAnswer a b = checked a (checked b (nonzero b (Value (ofWord (mulP (a .0) (invP (b .0)))))))
+
+-- an element of M31 is its own conjugate
+unfoldable pub conjugateAnswer : M31 → M31Answer
+conjugateAnswer a = checked a (Value a)

@@ -1,0 +1,65 @@
+-- How code takes a signed number x of any width apart: a negative x is negsuc of - (x + 1), another is its own size.
+use mathlib.Core.Path.{_≡_, refl, ap, _∙_, subst}
+use mathlib.Core.Bool.{true, false}
+use Prim.Native.Nat.{ℕ, zero, suc, _-_, _<_, _^_}
+use native.Mathlib.Nat.{not-suc-le-zero, zero-add}
+use native.Mathlib.Omega.{arith}
+use borrow.Author.Tests.{ltb-true, lt-ltb}
+use lib.IntN.{ℤ, pos, negsuc, negℤ, _+ℤ_, _-ℤ_}
+use lib.Signed.{mag, ltZ}
+use mir.Syntax.{Width}
+use mir.Val.{SFits, hbits, toZ, ofZ}
+use mir.Facts.{toZ-ofZ}
+
+negsuc-plus-one : (n : ℕ) → negsuc n +ℤ pos 1 ≡ negℤ (pos n)
+negsuc-plus-one zero = refl
+negsuc-plus-one (suc n) =
+    let e : suc (suc n) - 2 ≡ n = omega arith in
+    rw (lt-ltb 1 (suc (suc n)) (omega arith)) (ap negsuc e)
+
+zero-minus-neg : (n : ℕ) → pos 0 -ℤ negℤ (pos n) ≡ pos n
+zero-minus-neg zero = refl
+zero-minus-neg (suc n) = ap pos (zero-add (suc n))
+
+negative : (x : ℤ) → ltZ x (pos 0) ≡ true → x ≡ negsuc (mag x)
+negative (pos n) t = absurd (not-suc-le-zero (ltb-true n 0 t))
+negative (negsuc n) t = refl
+
+positive : (x : ℤ) → ltZ x (pos 0) ≡ false → x ≡ pos (mag x)
+positive (pos n) t = refl
+positive (negsuc n) t = cc
+
+-- x as the machine reads it back
+abbrev pub read : Width → ℤ → ℤ
+read w x = toZ w (ofZ w x)
+
+module _ (w : Width) where
+  neg-fits : (n : ℕ) → n < 2 ^ hbits w → SFits w (negℤ (pos n))
+  neg-fits zero h = record { sfits = h }
+  neg-fits (suc n) h = record { sfits = omega arith }
+
+  module _ (x : ℤ) (s : SFits w x) (t : ltZ (read w x) (pos 0) ≡ true) where
+    pub is-negative : x ≡ negsuc (mag x)
+    is-negative = negative x (subst (λ (z : ℤ). ltZ z (pos 0) ≡ true) (toZ-ofZ s) t)
+
+    plus-one : read w x +ℤ pos 1 ≡ negℤ (pos (mag x))
+    plus-one = ap (λ (z : ℤ). z +ℤ pos 1) (toZ-ofZ s ∙ is-negative) ∙ negsuc-plus-one (mag x)
+
+    pub plus-one-fits : SFits w (read w x +ℤ pos 1)
+    plus-one-fits = rw plus-one (neg-fits (mag x) (s .sfits))
+
+    negated : pos 0 -ℤ read w (read w x +ℤ pos 1) ≡ pos (mag x)
+    negated = ap (λ (z : ℤ). pos 0 -ℤ z) (toZ-ofZ plus-one-fits ∙ plus-one) ∙ zero-minus-neg (mag x)
+
+    pub negated-fits : SFits w (pos 0 -ℤ read w (read w x +ℤ pos 1))
+    negated-fits = rw negated (record { sfits = s .sfits })
+
+    pub negated-reads : read w (pos 0 -ℤ read w (read w x +ℤ pos 1)) ≡ pos (mag x)
+    negated-reads = toZ-ofZ negated-fits ∙ negated
+
+  module _ (x : ℤ) (s : SFits w x) (t : ltZ (read w x) (pos 0) ≡ false) where
+    pub is-positive : x ≡ pos (mag x)
+    is-positive = positive x (subst (λ (z : ℤ). ltZ z (pos 0) ≡ false) (toZ-ofZ s) t)
+
+    pub positive-reads : read w x ≡ pos (mag x)
+    positive-reads = toZ-ofZ s ∙ is-positive

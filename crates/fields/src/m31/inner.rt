@@ -1,0 +1,127 @@
+// M31 on words already known to be below P: what the layers above compute with. These are no public calls.
+ghost use mathlib.Core.Path.{_≡_};
+ghost use Prim.Native.Nat.{_+_, _*_, _%_, _^_, _<_, _≤_};
+ghost use lib.Dec.{ltb};
+ghost use Rattle.algebra.specs.M31.{P};
+ghost use Rattle.fields.specs.Words.{addP, subP, negP, mulP, powP};
+use crate::m31::P;
+
+// 2^31: as 2^31 = 1 modulo P, a word's bits from 31 on are added to those below
+const HALF: u32 = 2147483648;
+
+const WIDE_HALF: u64 = 2147483648;
+
+pub fn partial_reduce(val: u32) -> u32
+    requires { ⌜ val < 2 * P ⌝ }
+    ensures { λ r. ⌜ r ≡ val % P ⌝ }
+{
+    (val + (val + 1) / HALF) % HALF
+}
+
+pub fn reduce(val: u64) -> u32
+    requires { ⌜ val < P * P ⌝ }
+    ensures { λ r. ⌜ r ≡ val % P ⌝ }
+{
+    let low = (val % WIDE_HALF) as u32;
+    let high = (val / WIDE_HALF) as u32;
+    partial_reduce(low + high)
+}
+
+pub fn add(a: u32, b: u32) -> u32
+    requires { ⌜ (a < P) × (b < P) ⌝ }
+    ensures { λ r. ⌜ r ≡ addP a b ⌝ }
+{
+    partial_reduce(a + b)
+}
+
+// A difference below 0 wraps to 2^32 more, which is 2 modulo P.
+pub fn sub(a: u32, b: u32) -> u32
+    requires { ⌜ (a < P) × (b < P) ⌝ }
+    ensures { λ r. ⌜ r ≡ subP a b ⌝ }
+{
+    let difference = std::num::wrapping_sub_u32(a, b);
+    (difference - difference / HALF) % HALF
+}
+
+// 0 stays 0: P - 0 is reduced.
+pub fn neg(a: u32) -> u32
+    requires { ⌜ a < P ⌝ }
+    ensures { λ r. ⌜ r ≡ negP a ⌝ }
+{
+    partial_reduce(P - a)
+}
+
+pub fn mul(a: u32, b: u32) -> u32
+    requires { ⌜ (a < P) × (b < P) ⌝ }
+    ensures { λ r. ⌜ r ≡ mulP a b ⌝ }
+{
+    let product = (a as u64) * (b as u64);
+    reduce(product)
+}
+
+// the exponent high 2^64 + low is not 0
+fn more(high: u64, low: u64) -> bool
+    ensures { λ r. ⌜ r ≡ ltb 0 (high * 2 ^ 64 + low) ⌝ }
+{
+    if 0 < high {
+        return true;
+    }
+    0 < low
+}
+
+// a times b where the bit is 1, else a
+fn mul_if(a: u32, b: u32, bit: u64) -> u32
+    requires { ⌜ (a < P) × (b < P) × (bit < 2) ⌝ }
+    ensures { λ r. ⌜ r ≡ mulP a (powP b bit) ⌝ }
+{
+    if bit == 1 {
+        return mul(a, b);
+    }
+    a
+}
+
+// a to the power high 2^64 + low, by square-and-multiply.
+pub fn pow(a: u32, high: u64, low: u64) -> u32
+    requires { ⌜ a < P ⌝ }
+    ensures { λ r. ⌜ r ≡ powP a (high * 2 ^ 64 + low) ⌝ }
+{
+    let mut res: u32 = 1;
+    let mut base = a;
+    let mut upper = high;
+    let mut lower = low;
+    while more(upper, lower) {
+        res = mul_if(res, base, lower % 2);
+        base = mul(base, base);
+        lower = lower / 2 + (upper % 2) * 0x8000_0000_0000_0000;
+        upper = upper / 2;
+    }
+    res
+}
+
+// n squarings
+pub fn sqn(v: u32, n: u64) -> u32
+    requires { ⌜ v < P ⌝ }
+    ensures { λ r. ⌜ r ≡ powP v (2 ^ n) ⌝ }
+{
+    let mut square = v;
+    let mut left = n;
+    while 0 < left {
+        square = mul(square, square);
+        left -= 1;
+    }
+    square
+}
+
+// v to the power P - 2, with 37 multiplications.
+pub fn pow2147483645(v: u32) -> u32
+    requires { ⌜ v < P ⌝ }
+    ensures { λ r. ⌜ r ≡ powP v 2147483645 ⌝ }
+{
+    let t0 = mul(sqn(v, 2), v);
+    let t1 = mul(sqn(t0, 1), t0);
+    let t2 = mul(sqn(t1, 3), t0);
+    let t3 = mul(sqn(t2, 1), t0);
+    let t4 = mul(sqn(t3, 8), t3);
+    let t5 = mul(sqn(t4, 8), t3);
+    mul(sqn(t5, 7), t2)
+}
