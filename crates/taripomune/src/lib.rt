@@ -1,0 +1,3 @@
+// The C interface: numbers and slices in, one struct of numbers out. include/taripomune.h declares it for C.
+pub mod m31;
+pub mod reply;
