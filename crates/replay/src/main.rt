@@ -1,0 +1,76 @@
+// Replays the recorded answers of data/ through the C entry points, and prints how many came out as recorded.
+mod line;
+mod m31;
+mod row;
+
+struct Tally {
+    same: u64,
+    different: u64,
+}
+
+fn counted(t: Tally, same: bool) -> Tally {
+    if same {
+        return Tally {
+            same: std::num::wrapping_add_u64(t.same, 1),
+            different: t.different,
+        };
+    }
+    Tally {
+        same: t.same,
+        different: std::num::wrapping_add_u64(t.different, 1),
+    }
+}
+
+// A comment says nothing; any other line is an answer.
+fn replayed(t: Tally, line: &[u8]) -> Tally {
+    if line::is_comment(line) {
+        return t;
+    }
+    counted(t, m31::comes_out(line))
+}
+
+// The lines of a text.
+fn replayed_all(text: &[u8]) -> Tally {
+    let mut t = Tally {
+        same: 0,
+        different: 0,
+    };
+    let mut at = 0;
+    while at < text.len() {
+        let end = line::until(text, at, b'\n');
+        t = replayed(t, &text[at..end]);
+        at = end + 1;
+    }
+    t
+}
+
+fn report(name: &[u8], t: Tally) {
+    io::write_all(1, name);
+    io::write_all(1, b": ");
+    io::print_decimal(1, t.same);
+    io::write_all(1, b" answers as recorded, ");
+    io::print_decimal(1, t.different);
+    io::write_all(1, b" different\n");
+}
+
+// A list that fills the buffer may go on: it is reported as too long, and not replayed.
+fn replay(name: &[u8]) {
+    let fd = os::open_read(name);
+    if fd < 0 {
+        os::fail(name);
+        return;
+    }
+    let mut buffer = io::large_buffer();
+    let n = io::read_full(fd, &mut buffer);
+    libc::close(fd);
+    if n == 65536 {
+        io::write_all(1, name);
+        io::write_all(1, b": too long\n");
+        return;
+    }
+    report(name, replayed_all(&buffer[..n]));
+}
+
+fn main() {
+    replay(b"m31.txt");
+}
