@@ -36,9 +36,6 @@ qm31 = quartic m31
 pub complex-laws : (O : Ops) → Laws O → Laws (complex O)
 complex-laws O L = ext-laws O L (O .neg (O .one))
 
-pub quartic-laws : (O : Ops) → Laws O → Laws (quartic O)
-quartic-laws O L = ext-laws (complex O) (complex-laws O L) (twoPlusI O)
-
 -- two numbers below P are different elements
 differ : (a b : ℕ) → a < P → b < P → (a ≡ b → ⊥) → ¬ (element a ≡ element b)
 differ a b l m n e = n (residue-injective P P-pos a b l m e)

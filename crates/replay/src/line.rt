@@ -17,6 +17,21 @@ pub fn until(text: &[u8], at: usize, stop: u8) -> usize
     i
 }
 
+// Which of the words of a list is the name, counted from 0; the number of words where none is.
+pub fn place_of(name: &[u8], list: &[u8]) -> usize {
+    let mut place: usize = 0;
+    let mut at = 0;
+    while at < list.len() {
+        let end = until(list, at, b' ');
+        if check::same(name, &list[at..end]) {
+            return place;
+        }
+        place = std::num::wrapping_add_usize(place, 1);
+        at = end + 1;
+    }
+    place
+}
+
 pub fn is_comment(line: &[u8]) -> bool {
     if line.len() == 0 {
         return false;

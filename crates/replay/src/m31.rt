@@ -1,11 +1,11 @@
-// The functions of M31, by name and number of arguments.
+// The functions of M31, by name.
+use crate::line::place_of;
 use crate::line::until;
 use crate::row::Reply;
 use crate::row::Row;
 use crate::row::answers;
 use crate::row::at;
 use crate::row::read;
-use check::same;
 use taripomune::m31 as calls;
 use taripomune::reply::BoolReply;
 use taripomune::reply::M31Reply;
@@ -48,100 +48,56 @@ fn signed(x: u64) -> i32 {
     -1 - below
 }
 
-fn of_none(name: &[u8]) -> Reply {
-    if same(name, b"m31_zero") {
-        return element(calls::tari_m31_zero());
+fn conversion(place: usize, a: u64) -> Reply {
+    match place {
+        0 => element(calls::tari_m31_partial_reduce(word(a))),
+        1 => element(calls::tari_m31_reduce(a)),
+        2 => element(calls::tari_m31_from_u32_unchecked(word(a))),
+        3 => element(calls::tari_m31_from_usize(a)),
+        4 => element(calls::tari_m31_from_u32(word(a))),
+        5 => element(calls::tari_m31_from_i32(signed(a))),
+        _ => unknown(),
     }
-    if same(name, b"m31_one") {
-        return element(calls::tari_m31_one());
-    }
-    unknown()
 }
 
-// conversions
-fn of_number(name: &[u8], a: u64) -> Reply {
-    if same(name, b"m31_partial_reduce") {
-        return element(calls::tari_m31_partial_reduce(word(a)));
+fn arithmetic(place: usize, a: u32, b: u64, c: u64) -> Reply {
+    match place {
+        0 => element(calls::tari_m31_zero()),
+        1 => element(calls::tari_m31_one()),
+        2 => flag(calls::tari_m31_is_zero(a)),
+        3 => element(calls::tari_m31_add(a, word(b))),
+        4 => element(calls::tari_m31_sub(a, word(b))),
+        5 => element(calls::tari_m31_neg(a)),
+        6 => element(calls::tari_m31_mul(a, word(b))),
+        7 => element(calls::tari_m31_square(a)),
+        8 => element(calls::tari_m31_pow(a, b, c)),
+        9 => element(calls::tari_m31_pow2147483645(a)),
+        10 => element(calls::tari_m31_sqn(a, b)),
+        11 => element(calls::tari_m31_inverse(a)),
+        12 => element(calls::tari_m31_div(a, word(b))),
+        13 => element(calls::tari_m31_complex_conjugate(a)),
+        _ => unknown(),
     }
-    if same(name, b"m31_reduce") {
-        return element(calls::tari_m31_reduce(a));
-    }
-    if same(name, b"m31_from_u32_unchecked") {
-        return element(calls::tari_m31_from_u32_unchecked(word(a)));
-    }
-    if same(name, b"m31_from_usize") {
-        return element(calls::tari_m31_from_usize(a));
-    }
-    if same(name, b"m31_from_u32") {
-        return element(calls::tari_m31_from_u32(word(a)));
-    }
-    if same(name, b"m31_from_i32") {
-        return element(calls::tari_m31_from_i32(signed(a)));
-    }
-    of_element(name, word(a))
 }
 
-fn of_element(name: &[u8], a: u32) -> Reply {
-    if same(name, b"m31_is_zero") {
-        return flag(calls::tari_m31_is_zero(a));
-    }
-    if same(name, b"m31_neg") {
-        return element(calls::tari_m31_neg(a));
-    }
-    if same(name, b"m31_square") {
-        return element(calls::tari_m31_square(a));
-    }
-    if same(name, b"m31_pow2147483645") {
-        return element(calls::tari_m31_pow2147483645(a));
-    }
-    if same(name, b"m31_inverse") {
-        return element(calls::tari_m31_inverse(a));
-    }
-    if same(name, b"m31_complex_conjugate") {
-        return element(calls::tari_m31_complex_conjugate(a));
-    }
-    unknown()
-}
-
-fn of_two(name: &[u8], a: u32, b: u64) -> Reply {
-    if same(name, b"m31_add") {
-        return element(calls::tari_m31_add(a, word(b)));
-    }
-    if same(name, b"m31_sub") {
-        return element(calls::tari_m31_sub(a, word(b)));
-    }
-    if same(name, b"m31_mul") {
-        return element(calls::tari_m31_mul(a, word(b)));
-    }
-    if same(name, b"m31_div") {
-        return element(calls::tari_m31_div(a, word(b)));
-    }
-    if same(name, b"m31_sqn") {
-        return element(calls::tari_m31_sqn(a, b));
-    }
-    unknown()
-}
-
-fn of_three(name: &[u8], a: u32, b: u64, c: u64) -> Reply {
-    if same(name, b"m31_pow") {
-        return element(calls::tari_m31_pow(a, b, c));
-    }
-    unknown()
-}
-
+// The place of a name decides the call: the names stand in the order of the arms above.
 fn called(name: &[u8], row: Row) -> Reply {
     let numbers = row.numbers;
-    let count = row.arguments;
     let a = at(numbers, 0);
     let b = at(numbers, 1);
     let c = at(numbers, 2);
-    match count {
-        0 => of_none(name),
-        1 => of_number(name, a),
-        2 => of_two(name, word(a), b),
-        3 => of_three(name, word(a), b, c),
-        _ => unknown(),
+    let place = place_of(
+        name,
+        b"m31_partial_reduce m31_reduce m31_from_u32_unchecked m31_from_usize m31_from_u32 m31_from_i32",
+    );
+    if place < 6 {
+        return conversion(place, a);
     }
+    let rest = place_of(
+        name,
+        b"m31_zero m31_one m31_is_zero m31_add m31_sub m31_neg m31_mul m31_square m31_pow m31_pow2147483645 m31_sqn m31_inverse m31_div m31_complex_conjugate",
+    );
+    arithmetic(rest, word(a), b, c)
 }
 
 // Whether the line's call answers as the line says.

@@ -1,0 +1,86 @@
+//! Calls both sides on an input and counts.
+
+use crate::entry::{Answer, Args, Entry};
+use crate::inputs::{combinations, draw, Input};
+use crate::kinds::first_refusal;
+use crate::library::Function;
+use crate::random::Random;
+use std::panic::{catch_unwind, AssertUnwindSafe};
+use std::process::exit;
+
+/// So many differing inputs of a function are printed.
+const SHOWN: usize = 5;
+
+#[derive(Default)]
+pub struct Tally {
+    pub compared: u64,
+    pub refused: u64,
+    pub different: u64,
+    shown: Vec<Vec<i128>>,
+}
+
+/// Both answers on one input.
+pub struct Pair {
+    pub numbers: Vec<i128>,
+    pub expected: Answer,
+    pub library: Answer,
+}
+
+/// Compares a function on its limits and on `count` drawn inputs.
+pub fn check(entry: &Entry, function: &Function, seed: u64, count: u64) -> Tally {
+    let mut random = Random::new(seed, entry.name);
+    let mut tally = Tally::default();
+    for input in combinations(entry.takes, &mut random) {
+        tally.add(entry, &answers(entry, function, &input));
+    }
+    let drawn = if entry.takes.is_empty() { 0 } else { count };
+    for _ in 0..drawn {
+        let input = draw(entry.takes, &mut random);
+        tally.add(entry, &answers(entry, function, &input));
+    }
+    tally
+}
+
+impl Tally {
+    fn add(&mut self, entry: &Entry, pair: &Pair) {
+        self.compared += 1;
+        self.refused += u64::from(pair.expected.number != 0);
+        if pair.library != pair.expected {
+            self.different += 1;
+            if self.shown.len() < SHOWN && !self.shown.contains(&pair.numbers) {
+                self.shown.push(pair.numbers.clone());
+                println!("{} differs on {:?}", entry.name, pair.numbers);
+                println!("    expected {:?}", pair.expected);
+                println!("    library  {:?}", pair.library);
+            }
+        }
+    }
+}
+
+/// The library's answer, and document 01's refusal or else the Rust's answer.
+pub fn answers(entry: &Entry, function: &Function, input: &Input) -> Pair {
+    let numbers = input.concat();
+    let expected = match first_refusal(entry.takes, input) {
+        Some(refusal) => {
+            Answer { number: refusal.number, position: refusal.position, values: with_all(&numbers, function.refused) }
+        }
+        None => Answer { number: 0, position: 0, values: rust(entry, &numbers) },
+    };
+    let library = with_all(&numbers, function.call);
+    Pair { numbers, expected, library }
+}
+
+fn rust(entry: &Entry, numbers: &[i128]) -> Vec<u64> {
+    catch_unwind(AssertUnwindSafe(|| with_all(numbers, entry.rust))).unwrap_or_else(|_| {
+        println!("{}: the Rust panics on {numbers:?}, which the entry's kinds accept", entry.name);
+        exit(1)
+    })
+}
+
+/// Calls with the numbers and sees that all were taken.
+fn with_all<T>(numbers: &[i128], call: fn(&mut Args) -> T) -> T {
+    let mut args = Args(numbers.iter());
+    let answer = call(&mut args);
+    assert!(args.0.next().is_none(), "the entry's kinds give more numbers than are taken");
+    answer
+}
