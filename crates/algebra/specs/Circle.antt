@@ -3,10 +3,10 @@ use Prim.Native.Nat.{ℕ, zero, suc, _+_, _*_}
 use mathlib.Core.Path.{_≡_, refl, sym, _∙_, ap, ap₂}
 use mathlib.Core.List.{[], _∷_}
 use Rattle.algebra.specs.Ring.{Ops, Laws, sub, two}
-use Rattle.algebra.specs.Polynomial.{Expr, _:+_, _:*_, :-_, exprs, given, v0, v1, v2, v3, v4, v5}
+use Rattle.algebra.specs.Polynomial.{Expr, _:*_, :-_, exprs, given, v0, v1, v2, v3, v4, v5}
 use Rattle.algebra.specs.Solver.{solve, solvePair, solveFrom}
 use Rattle.algebra.specs.Power.{pow, pow-add, pow-mul, one-pow}
-use Rattle.algebra.specs.Extension.{conjugate}
+use Rattle.algebra.specs.Extension.{conjugate, norm}
 use Rattle.algebra.specs.Tower.{complex, complex-laws}
 
 -- (x, y) + (z, w) = (xz - yw, xw + yz)
@@ -67,6 +67,10 @@ module _ (O : Ops) (L : Laws O) where
   pub multiple-zeroPoint : (m : ℕ) → multiple O m (zeroPoint O) ≡ zeroPoint O
   multiple-zeroPoint m = multiple-pow m (zeroPoint O) ∙ one-pow (complex O) (complex-laws O L) m
 
+  -- x² + y² is the norm of x + yi
+  pub squares-norm : (p : O .El × O .El) → squares O p ≡ norm O (O .neg (O .one)) p
+  squares-norm p = solve O L (p .0 ∷ p .1 ∷ []) (squares exprs (v0, v1)) (norm exprs (:- Expr.:1) (v0, v1)) tt
+
   -- the circle is a group, in which the conjugate is the inverse
   pub on-zero : OnCircle O (zeroPoint O)
   on-zero = solve O L [] (squares exprs (zeroPoint exprs)) Expr.:1 tt
@@ -89,11 +93,6 @@ module _ (O : Ops) (L : Laws O) where
 
       second : plus O p (conjugate O p) .1 ≡ O .zero
       second = solve O L (p .0 ∷ p .1 ∷ []) (plus exprs (v0, v1) (conjugate exprs (v0, v1)) .1) Expr.:0 tt
-
-  pub on-multiple : (k : ℕ) (p : O .El × O .El) → OnCircle O p → OnCircle O (multiple O k p)
-  unfolding multiple
-  on-multiple zero p h = on-zero
-  on-multiple (suc k) p h = on-plus p (multiple O k p) h (on-multiple k p h)
 
   -- the x of p + p, on the circle
   pub plus-self-x : (p : O .El × O .El) → OnCircle O p → plus O p p .0 ≡ doubleX O (p .0)

@@ -1,5 +1,4 @@
 -- The extension of a ring by a square root t of r: pairs a + b t with t² = r.
-use mathlib.Core.Path.{_≡_}
 use mathlib.Core.List.{List, [], _∷_}
 use Rattle.algebra.specs.Ring.{Ops, Laws, sub}
 use Rattle.algebra.specs.Polynomial.{Expr, exprs, v0, v1, v2, v3, v4, v5, v6}

@@ -1,7 +1,7 @@
 -- The extension of a field by a square root of a non-square is a field.
 use mathlib.Core.Path.{_≡_, ap}
 use mathlib.Core.List.{[], _∷_}
-use Rattle.algebra.specs.Ring.{Ops, Laws, sub}
+use Rattle.algebra.specs.Ring.{Ops}
 use Rattle.algebra.specs.Polynomial.{Expr, _:+_, _:*_, :-_, exprs, given, v0, v1, v2, v3}
 use Rattle.algebra.specs.Solver.{solve, solveFrom}
 use Rattle.algebra.specs.Extension.{ext, ext-laws, norm}

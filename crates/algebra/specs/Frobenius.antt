@@ -6,7 +6,7 @@ use native.Mathlib.Omega.{arith}
 use lib.Dec.{lit<}
 use Rattle.algebra.specs.Ring.{Ops, Laws}
 use Rattle.algebra.specs.Ring as R
-use Rattle.algebra.specs.Polynomial.{Expr, _:+_, _:*_, :-_, exprs, v0, v1}
+use Rattle.algebra.specs.Polynomial.{Expr, _:*_, :-_, exprs, v0, v1}
 use Rattle.algebra.specs.Solver.{solvePair}
 use Rattle.algebra.specs.Power.{pow, mul-pow, powBySquaring, powBySquaring-ok}
 use Rattle.algebra.specs.ZMod.{Z, residue, zadd, zmul, zneg, zmod, zmod-laws, residue-add, residue-val}

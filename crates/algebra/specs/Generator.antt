@@ -1,7 +1,6 @@
 -- G = (2, 1268011823) lies on the circle over M31, and its order is exactly 2^31.
 use Prim.Native.Nat.{ℕ, zero, suc, _+_, _-_, _*_, _/_, _%_, _^_, _≤_, _<_}
 use mathlib.Core.Path.{_≡_, refl, sym, _∙_, ap}
-use mathlib.Core.List.{[], _∷_}
 use mathlib.Core.Logic.{_↔_}
 use native.Mathlib.Nat as N
 use native.Mathlib.Omega.{arith}

@@ -1,8 +1,6 @@
 -- Maps that keep the operations.
-use Prim.Native.Nat.{ℕ, zero, suc}
-use mathlib.Core.Path.{_≡_, _∙_, ap, ap₂}
-use Rattle.algebra.specs.Ring.{Ops, sub}
-use Rattle.algebra.specs.Power.{pow}
+use mathlib.Core.Path.{_≡_}
+use Rattle.algebra.specs.Ring.{Ops}
 
 pub record Homomorphism (A B : Ops) (f : A .El → B .El) : Type 0 where
   pub to-zero : f (A .zero) ≡ B .zero

@@ -1,5 +1,5 @@
 -- CM31 = M31[i] with i² = -1, and QM31 = CM31[u] with u² = 2 + i, are fields.
-use Prim.Native.Nat.{ℕ, _*_, _<_}
+use Prim.Native.Nat.{ℕ, _<_}
 use mathlib.Core.Path.{_≡_, refl, sym, _∙_, ap}
 use mathlib.Core.List.{[], _∷_}
 use native.Mathlib.Omega.{arith}

@@ -31,10 +31,6 @@ fold s h =
     rw (q, m) (omega arith))
     (lt-or-ge s P)
 
--- the low 31 bits and the rest have the same remainder together
-pub halves-mod : (v : ℕ) → (v % 2147483648 + v / 2147483648) % P ≡ v % P
-halves-mod v = omega arith
-
 pub product-below : (a b : ℕ) → a < P → b < P → a * b < P * P
 product-below a b ha hb =
     let la : a ≤ 2147483646 = omega arith in

@@ -7,7 +7,7 @@ use Rattle.algebra.specs.Power.{pow}
 use Rattle.algebra.specs.ZMod.{residue-mod, residue-add, residue-mul, residue-neg, residue-injective}
 use Rattle.algebra.specs.M31.{P, P-pos, m31, m31-laws, element}
 use Rattle.algebra.specs.Homomorphism.{Homomorphism}
-use Rattle.fields.specs.Words.{words31, mulP, powP}
+use Rattle.fields.specs.Words.{words31, powP}
 
 pub element-homomorphism : Homomorphism words31 m31 element
 element-homomorphism = record {

@@ -1,13 +1,13 @@
 -- The power P - 2 is the inverse, and the only one.
-use Prim.Native.Nat.{ℕ, zero, _*_, _%_, _<_}
-use mathlib.Core.Path.{_≡_, refl, sym, _∙_, ap}
+use Prim.Native.Nat.{ℕ, _*_, _<_}
+use mathlib.Core.Path.{_≡_, sym, _∙_, ap}
 use native.Mathlib.Nat as N
 use native.Mathlib.Omega.{arith}
 use lib.Dec.{lit<}
 use Rattle.algebra.specs.Power.{pow, pow-add, pow-one}
 use Rattle.algebra.specs.Field as F
 use Rattle.algebra.specs.M31.{P, P-pos, m31, m31-laws, m31-field, m31-fermat-one, element}
-use Rattle.fields.specs.Words.{mulP, powP, invP}
+use Rattle.fields.specs.Words.{mulP, invP}
 use Rattle.fields.specs.Elements.{element-homomorphism, element-injective, element-pow, powP-below}
 
 element-nonzero : (a : ℕ) → 0 < a → a < P → ¬ (element a ≡ m31 .zero)

@@ -9,7 +9,12 @@ use crate::refusal::Refusal;
 
 pub mod inner;
 
+pub const MODULUS_BITS: u32 = 31;
+
+pub const N_BYTES_FELT: usize = 4;
+
 pub const P: u32 = 2147483647;
+
 // 2P and P^2, from which partial_reduce and reduce refuse
 const TWO_P: u32 = 4294967294;
 

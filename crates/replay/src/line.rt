@@ -1,11 +1,10 @@
 // Lines of a list of answers: NAME ARG .. ARG = NUMBER POSITION VALUE .. VALUE, single spaces between.
-ghost use Prim.Native.Nat.{_≤_};
+ghost use Prim.Native.Nat.{_+_, _-_, _≤_};
 ghost use lib.ListN.{length};
 
 // Where the next byte `stop` is from `at` on, or where the text ends.
 pub fn until(text: &[u8], at: usize, stop: u8) -> usize
-    requires { ⌜ at ≤ length (now text) ⌝ }
-    ensures { λ r. ⌜ (at ≤ r) × (r ≤ length (now (text .entry))) ⌝ }
+    ensures { λ r. ⌜ (at ≤ r) × (r ≤ at + (length (now (text .entry)) - at)) ⌝ }
 {
     let mut i = at;
     while i < text.len() {

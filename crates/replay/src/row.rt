@@ -1,6 +1,4 @@
 // The numbers of a line: the arguments of the call, then what it should answer.
-ghost use Prim.Native.Nat.{_≤_};
-ghost use lib.ListN.{length};
 use crate::line::Number;
 use crate::line::number_of;
 use crate::line::until;
@@ -63,9 +61,7 @@ fn with_word(row: Row, word: &[u8]) -> Row {
 }
 
 // The numbers of a line from `from` on, where its name ends.
-pub fn read(line: &[u8], from: usize) -> Row
-    requires { ⌜ from ≤ length (now line) ⌝ }
-{
+pub fn read(line: &[u8], from: usize) -> Row {
     let mut row = Row {
         numbers: [0; 16],
         count: 0,

@@ -1,29 +1,29 @@
 // M31 on words already known to be below P: what the layers above compute with. These are no public calls.
 ghost use mathlib.Core.Path.{_≡_};
-ghost use Prim.Native.Nat.{_+_, _*_, _%_, _^_, _<_, _≤_};
+ghost use Prim.Native.Nat.{_+_, _*_, _%_, _^_, _<_};
 ghost use lib.Dec.{ltb};
 ghost use Rattle.algebra.specs.M31.{P};
 ghost use Rattle.fields.specs.Words.{addP, subP, negP, mulP, powP};
 use crate::m31::P;
 
-// 2^31: as 2^31 = 1 modulo P, a word's bits from 31 on are added to those below
-const HALF: u32 = 2147483648;
+// 2^31 is 1 modulo P, so the bits from 31 on are added to those below.
+const TWO_POW_31: u32 = 2147483648;
 
-const WIDE_HALF: u64 = 2147483648;
+const TWO_POW_31_U64: u64 = 2147483648;
 
 pub fn partial_reduce(val: u32) -> u32
     requires { ⌜ val < 2 * P ⌝ }
     ensures { λ r. ⌜ r ≡ val % P ⌝ }
 {
-    (val + (val + 1) / HALF) % HALF
+    (val + (val + 1) / TWO_POW_31) % TWO_POW_31
 }
 
 pub fn reduce(val: u64) -> u32
     requires { ⌜ val < P * P ⌝ }
     ensures { λ r. ⌜ r ≡ val % P ⌝ }
 {
-    let low = (val % WIDE_HALF) as u32;
-    let high = (val / WIDE_HALF) as u32;
+    let low = (val % TWO_POW_31_U64) as u32;
+    let high = (val / TWO_POW_31_U64) as u32;
     partial_reduce(low + high)
 }
 
@@ -40,7 +40,7 @@ pub fn sub(a: u32, b: u32) -> u32
     ensures { λ r. ⌜ r ≡ subP a b ⌝ }
 {
     let difference = std::num::wrapping_sub_u32(a, b);
-    (difference - difference / HALF) % HALF
+    (difference - difference / TWO_POW_31) % TWO_POW_31
 }
 
 // 0 stays 0: P - 0 is reduced.

@@ -1,11 +1,11 @@
-use Prim.Native.Nat.{_≤_, _-_}
+use Prim.Native.Nat.{_+_, _≤_, _-_}
 use lib.ListN.{length}
 use borrow.Author.Needs.{needs}
 use Rattle.replay.proofs.line.until.Statement.{statement}
 use Rattle.replay.proofs.line.until.Tie as tie
 
 abbrev Inv-loop : tie.InvT-loop
-Inv-loop text at stop i₀ i = (at ≤ i) × (i ≤ length text)
+Inv-loop text at stop i₀ i = (at ≤ i) × (i ≤ at + (length text - at))
 
 abbrev μ-loop : tie.MeasureT-loop
 μ-loop text at stop i₀ i = length text - i

@@ -1,11 +1,11 @@
-use Prim.Native.Nat.{_≤_, _-_}
+use Prim.Native.Nat.{_-_}
 use lib.ListN.{length}
 use borrow.Author.Needs.{needs}
 use Rattle.replay.proofs.row.read.Statement.{statement}
 use Rattle.replay.proofs.row.read.Tie as tie
 
 abbrev Inv-loop : tie.InvT-loop
-Inv-loop line from row₀ at₀ row at = at ≤ length line
+Inv-loop line from row₀ at₀ row at = Unit {0}
 
 abbrev μ-loop : tie.MeasureT-loop
 μ-loop line from row₀ at₀ row at = length line - at

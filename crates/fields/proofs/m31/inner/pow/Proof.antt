@@ -9,8 +9,6 @@ use Rattle.algebra.specs.M31.{P, m31, element}
 use Rattle.fields.proofs.Powers.{turn, turn-first, turn-last}
 use Rattle.fields.proofs.m31.inner.pow.Statement.{statement}
 use Rattle.fields.proofs.m31.inner.pow.Tie as tie
-use Rattle.fields.proofs.m31.inner.pow.Reads as reads
-use Rattle.fields.proofs.m31.inner.pow.Lts as lts
 
 -- res times base to the power of what is left of the exponent is the power asked for
 abbrev Inv-loop : tie.InvT-loop

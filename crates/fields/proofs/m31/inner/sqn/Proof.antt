@@ -7,8 +7,6 @@ use Rattle.fields.specs.Words.{powP}
 use Rattle.fields.proofs.Powers.{square-step, powP-one}
 use Rattle.fields.proofs.m31.inner.sqn.Statement.{statement}
 use Rattle.fields.proofs.m31.inner.sqn.Tie as tie
-use Rattle.fields.proofs.m31.inner.sqn.Reads as reads
-use Rattle.fields.proofs.m31.inner.sqn.Lts as lts
 
 -- the squarings that are left give the power asked for
 abbrev Inv-loop : tie.InvT-loop
