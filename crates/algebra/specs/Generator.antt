@@ -40,7 +40,7 @@ half-nonzero : ¬ (multiple m31 (2 ^ 30) G ≡ zeroPoint m31)
 unfolding residue zneg
 half-nonzero e = let w : _≡_ {A = ℕ} 2147483646 1 = residue-injective P P-pos 2147483646 1 (lit< tt) (lit< tt) (ap (λ t. t .0) (sym G-half ∙ e)) in omega arith
 
--- whole turns add nothing
+-- a multiple of 2^31 G adds nothing
 multiple-shift : (k n : ℕ) → multiple m31 (k + n * 2 ^ 31) G ≡ multiple m31 k G
 multiple-shift k n =
     multiple-add m31 m31-laws k (n * 2 ^ 31) G
@@ -51,13 +51,13 @@ multiple-shift k n =
 quotient-even : (d k m : ℕ) → k ≤ 30 → d ≡ 2 ^ k * m → multiple m31 d G ≡ zeroPoint m31 → m % 2 ≡ 0
 quotient-even d k m l e h = elim (ℕ-discrete (m % 2) 0) [ yes z ↦ z | no f ↦ absurd (half-nonzero (half f)) ]
   where
-    turns : 2 ^ (30 - k) * 2 ^ k ≡ 2 ^ 30
-    turns = sym (W.pow-add 2 (30 - k) k) ∙ ap (λ (x : ℕ). 2 ^ x) (N.sub-add-cancel l)
+    product : 2 ^ (30 - k) * 2 ^ k ≡ 2 ^ 30
+    product = sym (W.pow-add 2 (30 - k) k) ∙ ap (λ (x : ℕ). 2 ^ x) (N.sub-add-cancel l)
 
     same : ¬ (m % 2 ≡ 0) → 2 ^ (30 - k) * d ≡ 2 ^ 30 + m / 2 * 2 ^ 31
     same f =
         let w : m ≡ 2 * (m / 2) + 1 = omega arith in
-        ap (λ (x : ℕ). 2 ^ (30 - k) * x) e ∙ omega (arith, ap (λ (x : ℕ). x * m) turns) ∙ ap (λ (x : ℕ). 2 ^ 30 * x) w ∙ omega arith
+        ap (λ (x : ℕ). 2 ^ (30 - k) * x) e ∙ omega (arith, ap (λ (x : ℕ). x * m) product) ∙ ap (λ (x : ℕ). 2 ^ 30 * x) w ∙ omega arith
 
     half : ¬ (m % 2 ≡ 0) → multiple m31 (2 ^ 30) G ≡ zeroPoint m31
     half f =

@@ -61,7 +61,7 @@ module _ (O : Ops) (L : Laws O) where
   pub pow-square : (x : El) (n : ℕ) → pow O (x ⊗ x) n ≡ pow O x (n * 2)
   pow-square x n = ap (λ t. pow O t n) (sym (pow-two x)) ∙ sym (pow-mul x n 2)
 
-  -- one turn of square-and-multiply: the lowest bit of the exponent is used, and the base squared
+  -- one step of square-and-multiply: the lowest bit of the exponent is used, and the base squared
   pub square-and-multiply : (a x : El) (n : ℕ) → a ⊗ pow O x (n % 2) ⊗ pow O (x ⊗ x) (n / 2) ≡ a ⊗ pow O x n
   square-and-multiply a x n =
       mul-assoc a (pow O x (n % 2)) (pow O (x ⊗ x) (n / 2))

@@ -21,21 +21,21 @@ pub mul-bit-zero : (a b bit : ℕ) → a < P → bit ≡ 0 → a ≡ mulP a (pow
 mul-bit-zero a b bit h e =
     sym (ap (λ (t : ℕ). mulP a (powP b t)) e ∙ ap (λ (t : ℕ). mulP a (t % P)) (N.pow-zero b) ∙ ap (λ (t : ℕ). t % P) (N.mul-one a) ∙ N.mod-eq-of-lt h)
 
--- one turn of square-and-multiply
-pub turn : (res base n : ℕ)
+-- one step of square-and-multiply
+pub pow-step : (res base n : ℕ)
     → m31 .mul (element (mulP res (powP base (n % 2)))) (pow m31 (element (mulP base base)) (n / 2)) ≡ m31 .mul (element res) (pow m31 (element base) n)
-turn res base n =
+pow-step res base n =
     ap₂ (m31 .mul)
     (element-homomorphism .to-mul res (powP base (n % 2)) ∙ ap (m31 .mul (element res)) (element-pow base (n % 2)))
     (ap (λ t. pow m31 t (n / 2)) (element-homomorphism .to-mul base base))
     ∙ square-and-multiply m31 m31-laws (element res) (element base) n
 
--- before the first turn, and after the last
-pub turn-first : (a n : ℕ) → m31 .mul (element 1) (pow m31 (element a) n) ≡ pow m31 (element a) n
-turn-first a n = m31-laws .mul-comm (element 1) (pow m31 (element a) n) ∙ m31-laws .mul-one (pow m31 (element a) n)
+-- before the first step, and after the last
+pub pow-start : (a n : ℕ) → m31 .mul (element 1) (pow m31 (element a) n) ≡ pow m31 (element a) n
+pow-start a n = m31-laws .mul-comm (element 1) (pow m31 (element a) n) ∙ m31-laws .mul-one (pow m31 (element a) n)
 
-pub turn-last : (res base a m n : ℕ) → res < P → m ≡ 0 → m31 .mul (element res) (pow m31 (element base) m) ≡ pow m31 (element a) n → res ≡ powP a n
-turn-last res base a m n h z e =
+pub pow-end : (res base a m n : ℕ) → res < P → m ≡ 0 → m31 .mul (element res) (pow m31 (element base) m) ≡ pow m31 (element a) n → res ≡ powP a n
+pow-end res base a m n h z e =
     powP-unique res a n h
     (sym (m31-laws .mul-one (element res)) ∙ ap (m31 .mul (element res)) (sym (pow-zero m31 m31-laws (element base)) ∙ ap (pow m31 (element base)) (sym z)) ∙ e)
 

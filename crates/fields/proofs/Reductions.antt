@@ -1,35 +1,27 @@
 -- The reductions modulo P by halves of 31 bits.
 use Prim.Native.Nat.{ℕ, zero, suc, _+_, _-_, _*_, _/_, _%_, _<_, _≤_}
 use mathlib.Core.Path.{_≡_, refl}
-use mathlib.Core.Logic.{_⊎_, inl, inr, ⊎-elim}
-use mathlib.Core.Bool.{Bool, true, false}
 use native.Mathlib.Nat.{mul-le-mul}
+use native.Mathlib.Decide.{decLt}
 use native.Mathlib.Omega.{arith}
-use lib.Dec.{ltb}
-use borrow.Author.Tests.{ltb-true, ltb-false}
 use Rattle.algebra.specs.M31.{P}
 use Rattle.fields.specs.Words.{negP, subP}
 
-lt-or-ge : (a b : ℕ) → (a < b) ⊎ (b ≤ a)
-lt-or-ge a b = go (ltb a b) refl
-  where
-    go : (t : Bool) → ltb a b ≡ t → (a < b) ⊎ (b ≤ a)
-    go true e = inl (ltb-true a b e)
-    go false e = inr (ltb-false a b e)
-
 -- a number below 2P, its bit 31 added to the others
 pub fold : (s : ℕ) → s < 2 * P → (s + (s + 1) / 2147483648) % 2147483648 ≡ s % P
-fold s h =
-    ⊎-elim
-    (λ (l : s < P).
-    let q : (s + 1) / 2147483648 ≡ 0 = omega arith in
-    let m : s % P ≡ s = omega arith in
-    rw (q, m) (omega arith))
-    (λ (l : P ≤ s).
-    let q : (s + 1) / 2147483648 ≡ 1 = omega arith in
-    let m : s % P ≡ s - P = omega arith in
-    rw (q, m) (omega arith))
-    (lt-or-ge s P)
+fold s h = elim (decLt s P) [ yes l ↦ low l | no l ↦ high (omega arith) ]
+  where
+    low : s < P → (s + (s + 1) / 2147483648) % 2147483648 ≡ s % P
+    low l =
+        let q : (s + 1) / 2147483648 ≡ 0 = omega arith in
+        let m : s % P ≡ s = omega arith in
+        rw (q, m) (omega arith)
+
+    high : P ≤ s → (s + (s + 1) / 2147483648) % 2147483648 ≡ s % P
+    high l =
+        let q : (s + 1) / 2147483648 ≡ 1 = omega arith in
+        let m : s % P ≡ s - P = omega arith in
+        rw (q, m) (omega arith)
 
 pub product-below : (a b : ℕ) → a < P → b < P → a * b < P * P
 product-below a b ha hb =
@@ -53,17 +45,19 @@ subP-more a b l h = go b refl
 
 -- a difference that wraps below 0, folded
 pub unwrap : (a b d : ℕ) → a < P → b < P → d < 4294967296 → (d + b) % 4294967296 ≡ a → (d - d / 2147483648) % 2147483648 ≡ subP a b
-unwrap a b d ha hb hd e =
-    ⊎-elim
-    (λ (l : a < b).
-    let f : d ≡ 4294967296 + a - b = omega arith in
-    let q : d / 2147483648 ≡ 1 = omega arith in
-    rw (q, subP-less a b l hb) (omega arith))
-    (λ (l : b ≤ a).
-    let f : d ≡ a - b = omega arith in
-    let q : d / 2147483648 ≡ 0 = omega arith in
-    rw (q, subP-more a b l ha) (omega arith))
-    (lt-or-ge a b)
+unwrap a b d ha hb hd e = elim (decLt a b) [ yes l ↦ wrapped l | no l ↦ plain (omega arith) ]
+  where
+    wrapped : a < b → (d - d / 2147483648) % 2147483648 ≡ subP a b
+    wrapped l =
+        let f : d ≡ 4294967296 + a - b = omega arith in
+        let q : d / 2147483648 ≡ 1 = omega arith in
+        rw (q, subP-less a b l hb) (omega arith)
+
+    plain : b ≤ a → (d - d / 2147483648) % 2147483648 ≡ subP a b
+    plain l =
+        let f : d ≡ a - b = omega arith in
+        let q : d / 2147483648 ≡ 0 = omega arith in
+        rw (q, subP-more a b l ha) (omega arith)
 
 -- 2P - (n + 1) is the negative of n + 1
 pub two-P-less : (n : ℕ) → n < 2147483648 → (4294967293 - n) % P ≡ negP (suc n)

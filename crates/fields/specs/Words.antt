@@ -6,7 +6,7 @@ use Rattle.algebra.specs.M31.{P}
 abbrev pub addP : ℕ → ℕ → ℕ
 addP a b = (a + b) % P
 
--- what a wants to the next multiple of P
+-- the number below P that gives a multiple of P when a is added
 abbrev pub negP : ℕ → ℕ
 negP a = (P - a % P) % P
 

@@ -212,7 +212,7 @@ pub fn pow2147483645(v: M31) -> M31Answer
     M31Answer::Value(M31(inner::pow2147483645(v.0)))
 }
 
-// The fewest squarings that give the same as n of them: the 31st square is the first one.
+// The fewest squarings that give the same as n of them: squaring has period 30 from the first square on.
 fn squarings(n: u64) -> u64
     ensures { λ r. ⌜ r ≡ squaringsOf n ⌝ }
 {

@@ -44,7 +44,7 @@ pub enum Number {
     Bad,
 }
 
-// One more decimal digit.
+// One more decimal digit, where the number stays below 2^64.
 fn digit(before: Number, byte: u8) -> Number {
     let Number::Value(value) = before else {
         return Number::Bad;
@@ -58,9 +58,12 @@ fn digit(before: Number, byte: u8) -> Number {
     if 1844674407370955161 < value {
         return Number::Bad;
     }
-    let ten = value * 10;
+    let tens = value * 10;
     let units = (byte - b'0') as u64;
-    Number::Value(std::num::wrapping_add_u64(ten, units))
+    if 18446744073709551615 - units < tens {
+        return Number::Bad;
+    }
+    Number::Value(tens + units)
 }
 
 fn digits(word: &[u8]) -> Number {

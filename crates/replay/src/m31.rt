@@ -26,7 +26,7 @@ fn flag(r: BoolReply) -> Reply {
     reply_of(r.number, r.position, r.value)
 }
 
-// No numbers: what no call answers.
+// Where there is no such call.
 fn unknown() -> Reply {
     Reply {
         numbers: [0; 16],
@@ -34,17 +34,24 @@ fn unknown() -> Reply {
     }
 }
 
+// A number as a u32; the largest where it is none, which is no number that was recorded.
 fn word(x: u64) -> u32 {
-    (x % 4294967296) as u32
+    if 4294967295 < x {
+        return 4294967295;
+    }
+    x as u32
 }
 
-// x modulo 2^32 as a signed number
+// A number modulo 2^64 as an i32; the largest where it is none.
 fn signed(x: u64) -> i32 {
-    let low = x % 4294967296;
-    if low < 2147483648 {
-        return low as i32;
+    if x < 2147483648 {
+        return x as i32;
     }
-    let below = (4294967295 - low) as i32;
+    let above = 18446744073709551615 - x;
+    if 2147483647 < above {
+        return 2147483647;
+    }
+    let below = above as i32;
     -1 - below
 }
 
@@ -80,9 +87,20 @@ fn arithmetic(place: usize, a: u32, b: u64, c: u64) -> Reply {
     }
 }
 
+// How many arguments each arm of `arithmetic` takes.
+fn arity(place: usize) -> usize {
+    match place {
+        0 | 1 => 0,
+        3 | 4 | 6 | 10 | 12 => 2,
+        8 => 3,
+        _ => 1,
+    }
+}
+
 // The place of a name decides the call: the names stand in the order of the arms above.
 fn called(name: &[u8], row: Row) -> Reply {
     let numbers = row.numbers;
+    let count = row.arguments;
     let a = at(numbers, 0);
     let b = at(numbers, 1);
     let c = at(numbers, 2);
@@ -91,17 +109,23 @@ fn called(name: &[u8], row: Row) -> Reply {
         b"m31_partial_reduce m31_reduce m31_from_u32_unchecked m31_from_usize m31_from_u32 m31_from_i32",
     );
     if place < 6 {
+        if count != 1 {
+            return unknown();
+        }
         return conversion(place, a);
     }
     let rest = place_of(
         name,
         b"m31_zero m31_one m31_is_zero m31_add m31_sub m31_neg m31_mul m31_square m31_pow m31_pow2147483645 m31_sqn m31_inverse m31_div m31_complex_conjugate",
     );
+    if count != arity(rest) {
+        return unknown();
+    }
     arithmetic(rest, word(a), b, c)
 }
 
 // Whether the line's call answers as the line says.
-pub fn comes_out(line: &[u8]) -> bool {
+pub fn as_recorded(line: &[u8]) -> bool {
     let end = until(line, 0, b' ');
     let row = read(line, end);
     answers(row, called(&line[..end], row))

@@ -26,7 +26,7 @@ fn replayed(t: Tally, line: &[u8]) -> Tally {
     if line::is_comment(line) {
         return t;
     }
-    counted(t, m31::comes_out(line))
+    counted(t, m31::as_recorded(line))
 }
 
 // The lines of a text.

@@ -3,7 +3,8 @@ use crate::line::Number;
 use crate::line::number_of;
 use crate::line::until;
 
-// At most 16 numbers, `arguments` of them before the sign =; bad where the line doesn't read so.
+// At most 16 numbers, `arguments` of them before the sign =, which stands once; bad where the line doesn't read so.
+// Until the sign has come, `arguments` is NONE.
 pub struct Row {
     pub numbers: [u64; 16],
     pub count: usize,
@@ -11,7 +12,9 @@ pub struct Row {
     pub bad: bool,
 }
 
-// The numbers that a call answered.
+const NONE: usize = 17;
+
+// The numbers that a call answered; none where there is no such call.
 pub struct Reply {
     pub numbers: [u64; 16],
     pub count: usize,
@@ -49,6 +52,9 @@ fn with_number(row: Row, n: Number) -> Row {
 // The row with one word more, a number or the sign =.
 fn with_word(row: Row, word: &[u8]) -> Row {
     if check::same(word, b"=") {
+        if row.arguments != NONE {
+            return bad(row);
+        }
         let numbers = row.numbers;
         return Row {
             numbers,
@@ -65,7 +71,7 @@ pub fn read(line: &[u8], from: usize) -> Row {
     let mut row = Row {
         numbers: [0; 16],
         count: 0,
-        arguments: 0,
+        arguments: NONE,
         bad: false,
     };
     let mut at = from;
@@ -94,15 +100,15 @@ pub fn answers(row: Row, reply: Reply) -> bool {
     if row.count < row.arguments {
         return false;
     }
+    if 16 < row.count {
+        return false;
+    }
+    if reply.count == 0 {
+        return false;
+    }
     let from = row.arguments;
     let count = row.count - from;
     if count != reply.count {
-        return false;
-    }
-    if 16 < from {
-        return false;
-    }
-    if 16 < count {
         return false;
     }
     let recorded = row.numbers;

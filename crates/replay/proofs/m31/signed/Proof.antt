@@ -1,4 +1,4 @@
-use Prim.Native.Nat.{ℕ, zero, suc, _-_, _%_, _<_, _^_}
+use Prim.Native.Nat.{ℕ, zero, suc, _-_, _<_, _^_}
 use mathlib.Core.Path.{_≡_, refl, ap}
 use native.Mathlib.Nat.{zero-add}
 use native.Mathlib.Omega.{arith}
@@ -23,17 +23,21 @@ cast-result c = search needs
 returns : tie.Need-returns
 returns c = search needs
 
-sub-below : tie.Need-sub-below
-sub-below c = search needs
+sub-above : tie.Need-sub-above
+sub-above c = search needs
+
+returns-2 : tie.Need-returns-2
+returns-2 c = search needs
 
 cast-below : tie.Need-cast-below
 cast-below c = search needs
 
 sub-result : tie.Need-sub-result
-sub-result c = minus-one-fits (4294967295 - c .before .args .x % 4294967296) (omega arith)
+sub-result c = minus-one-fits (18446744073709551615 - c .before .before .args .x) (omega arith)
 
-returns-2 : tie.Need-returns-2
-returns-2 c = search needs
+returns-3 : tie.Need-returns-3
+returns-3 c = search needs
 
 pub signed-spec : {M : Type 1} → statement M
-signed-spec = tie.close (tie.spec cast-result returns sub-below cast-below sub-result returns-2)
+signed-spec =
+    tie.close (tie.spec cast-result returns sub-above returns-2 cast-below sub-result returns-3)

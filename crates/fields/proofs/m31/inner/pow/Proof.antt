@@ -6,7 +6,7 @@ use borrow.Author.Needs.{needs}
 use borrow.Author.Tests.{ltb-true, ltb-false}
 use Rattle.algebra.specs.Power.{pow}
 use Rattle.algebra.specs.M31.{P, m31, element}
-use Rattle.fields.proofs.Powers.{turn, turn-first, turn-last}
+use Rattle.fields.proofs.Powers.{pow-step, pow-start, pow-end}
 use Rattle.fields.proofs.m31.inner.pow.Statement.{statement}
 use Rattle.fields.proofs.m31.inner.pow.Tie as tie
 
@@ -20,7 +20,7 @@ abbrev μ-loop : tie.MeasureT-loop
 μ-loop a high low res₀ base₀ upper₀ lower₀ res base upper lower = upper * 2 ^ 64 + lower
 
 loop-holds : tie.Need-loop-holds Inv-loop μ-loop
-loop-holds c = (lit< tt, search needs, search needs, turn-first _ _)
+loop-holds c = (lit< tt, search needs, search needs, pow-start _ _)
 
 more-requires : tie.Need-more-requires Inv-loop μ-loop
 more-requires c κs = search needs
@@ -51,14 +51,14 @@ loop-again c =
       omega arith,
       omega arith,
       omega arith,
-      rw (c .before .mul-if .ensures, c .mul .ensures, rest, bit) (turn (at .res) (at .base) (at .upper * 2 ^ 64 + at .lower) ∙ at .inv .3),
+      rw (c .before .mul-if .ensures, c .mul .ensures, rest, bit) (pow-step (at .res) (at .base) (at .upper * 2 ^ 64 + at .lower) ∙ at .inv .3),
     )
 
 returns : tie.Need-returns Inv-loop μ-loop
 returns c =
     let at = c .before .before .loop in
     let none = ltb-false 0 (at .upper * 2 ^ 64 + at .lower) (sym (c .before .more .ensures) ∙ c .if1 .left) in
-    turn-last (at .res) (at .base) _ (at .upper * 2 ^ 64 + at .lower) _ (at .inv .0) (omega arith) (at .inv .3)
+    pow-end (at .res) (at .base) _ (at .upper * 2 ^ 64 + at .lower) _ (at .inv .0) (omega arith) (at .inv .3)
 
 pub pow-spec : {M : Type 1} → statement M
 pow-spec =

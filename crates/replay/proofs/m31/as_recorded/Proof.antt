@@ -1,8 +1,8 @@
 use native.Mathlib.Omega.{arith}
 use lib.ListN.{length-take}
 use borrow.Author.Needs.{needs}
-use Rattle.replay.proofs.m31.comes_out.Statement.{statement}
-use Rattle.replay.proofs.m31.comes_out.Tie as tie
+use Rattle.replay.proofs.m31.as_recorded.Statement.{statement}
+use Rattle.replay.proofs.m31.as_recorded.Tie as tie
 
 until-requires : tie.Need-until-requires
 until-requires c κs = search needs
@@ -22,8 +22,8 @@ answers-requires c κs = search needs
 returns : tie.Need-returns
 returns c = search needs
 
-pub comes-out-spec : {M : Type 1} → statement M
-comes-out-spec =
+pub as-recorded-spec : {M : Type 1} → statement M
+as-recorded-spec =
     tie.close
     (tie.spec
     until-requires
