@@ -15,6 +15,10 @@ ext O r = record {
   neg = λ p. (O .neg (p .0), O .neg (p .1));
 }
 
+-- a as a + 0 t
+abbrev pub embed : (O : Ops) → O .El → O .El × O .El
+embed O a = (a, O .zero)
+
 -- a - b t
 abbrev pub conjugate : (O : Ops) → O .El × O .El → O .El × O .El
 conjugate O p = (p .0, O .neg (p .1))
@@ -22,6 +26,10 @@ conjugate O p = (p .0, O .neg (p .1))
 -- a² - r b²
 abbrev pub norm : (O : Ops) → O .El → O .El × O .El → O .El
 norm O r p = sub O (O .mul (p .0) (p .0)) (O .mul r (O .mul (p .1) (p .1)))
+
+-- the conjugate over the norm: the inverse, where inv inverts the norm
+abbrev pub extInverse : (O : Ops) (r : O .El) → (O .El → O .El) → O .El × O .El → O .El × O .El
+extInverse O r inv p = (O .mul (p .0) (inv (norm O r p)), O .neg (O .mul (p .1) (inv (norm O r p))))
 
 -- three general elements of the extension of expressions by variable 6
 abbrev X : Ops

@@ -4,7 +4,7 @@ use mathlib.Core.List.{[], _∷_}
 use Rattle.algebra.specs.Ring.{Ops}
 use Rattle.algebra.specs.Polynomial.{Expr, _:+_, _:*_, :-_, exprs, given, v0, v1, v2, v3}
 use Rattle.algebra.specs.Solver.{solve, solveFrom}
-use Rattle.algebra.specs.Extension.{ext, ext-laws, norm}
+use Rattle.algebra.specs.Extension.{ext, ext-laws, norm, extInverse}
 use Rattle.algebra.specs.Field.{Field, square-zero}
 
 -- (a + b t)(a s - b s t), with s the inverse of the norm
@@ -37,35 +37,30 @@ module _ (O : Ops) (F : Field O) (r : O .El) (nonsquare : (x : O .El) → ¬ (O 
           (solveFrom O L (p .0 ∷ p .1 ∷ r ∷ [])
           (given Expr.:1 (norm exprs v2 (v0, v1)) Expr.:0 ∷ given (v2 :* v1) v1 Expr.:0 ∷ []) (h, (second-zero p h, tt)) (v0 :* v0) Expr.:0 tt)
 
-  -- the conjugate over the norm
-  pub ext-inv : El × El → El × El
-  ext-inv p = (p .0 ⊗ inv (norm O r p), ⊖ (p .1 ⊗ inv (norm O r p)))
-
-  pub ext-mul-inv : (p : El × El) → ¬ (p ≡ (𝟘, 𝟘)) → ext O r .mul p (ext-inv p) ≡ (𝟙, 𝟘)
-  unfolding ext-inv
+  pub ext-mul-inv : (p : El × El) → ¬ (p ≡ (𝟘, 𝟘)) → ext O r .mul p (extInverse O r inv p) ≡ (𝟙, 𝟘)
   ext-mul-inv p np = λ i. (first i, second i)
     where
       inverse : norm O r p ⊗ inv (norm O r p) ≡ 𝟙
       inverse = mul-inv (norm O r p) (λ z. np (norm-zero p z))
 
-      first : ext O r .mul p (ext-inv p) .0 ≡ 𝟙
+      first : ext O r .mul p (extInverse O r inv p) .0 ≡ 𝟙
       first =
           solveFrom O L (p .0 ∷ p .1 ∷ inv (norm O r p) ∷ r ∷ [])
           (given Expr.:1 (norm exprs v3 (v0, v1) :* v2) Expr.:1 ∷ []) (inverse, tt) (product .0) Expr.:1 tt
 
-      second : ext O r .mul p (ext-inv p) .1 ≡ 𝟘
+      second : ext O r .mul p (extInverse O r inv p) .1 ≡ 𝟘
       second = solve O L (p .0 ∷ p .1 ∷ inv (norm O r p) ∷ r ∷ []) (product .1) Expr.:0 tt
 
-  pub ext-field : Field (ext O r)
+  pub both-zero : (p : El × El) → Dec (p .0 ≡ 𝟘) → Dec (p .1 ≡ 𝟘) → Dec (p ≡ (𝟘, 𝟘))
+  both-zero p (yes x) (yes y) = yes (λ i. (x i, y i))
+  both-zero p (no n) d = no (λ e. n (ap (λ q. q .0) e))
+  both-zero p (yes x) (no n) = no (λ e. n (ap (λ q. q .1) e))
+
+  abbrev pub ext-field : Field (ext O r)
   ext-field = record {
     laws = ext-laws O L r;
-    inv = ext-inv;
+    inv = extInverse O r inv;
     mul-inv = ext-mul-inv;
     one-nonzero = λ e. one-nonzero (ap (λ p. p .0) e);
-    isZero = λ p. both p (isZero (p .0)) (isZero (p .1));
+    isZero = λ p. both-zero p (isZero (p .0)) (isZero (p .1));
   }
-    where
-      both : (p : El × El) → Dec (p .0 ≡ 𝟘) → Dec (p .1 ≡ 𝟘) → Dec (p ≡ (𝟘, 𝟘))
-      both p (yes x) (yes y) = yes (λ i. (x i, y i))
-      both p (no n) d = no (λ e. n (ap (λ q. q .0) e))
-      both p (yes x) (no n) = no (λ e. n (ap (λ q. q .1) e))

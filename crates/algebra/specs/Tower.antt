@@ -54,7 +54,7 @@ nonsquare-by-euler c nonzero h x e =
     x-nonzero : ¬ (x ≡ m31 .zero)
     x-nonzero z = nonzero (sym e ∙ ap (λ t. m31 .mul t x) z ∙ R.zero-mul m31 m31-laws x)
 
-minus-one-nonsquare : (x : Z P) → ¬ (m31 .mul x x ≡ m31 .neg (m31 .one))
+pub minus-one-nonsquare : (x : Z P) → ¬ (m31 .mul x x ≡ m31 .neg (m31 .one))
 unfolding residue zneg zmul powBySquaring
 minus-one-nonsquare =
     nonsquare-by-euler (m31 .neg (m31 .one)) (differ 2147483646 0 (lit< tt) P-pos (λ e. omega (arith, e))) refl
@@ -63,7 +63,7 @@ five-nonsquare : (x : Z P) → ¬ (m31 .mul x x ≡ element 5)
 unfolding residue zneg zmul powBySquaring
 five-nonsquare = nonsquare-by-euler (element 5) (differ 5 0 (lit< tt) P-pos (λ e. omega (arith, e))) refl
 
-pub cm31-field : Field cm31
+abbrev pub cm31-field : Field cm31
 cm31-field = ext-field m31 m31-field (m31 .neg (m31 .one)) minus-one-nonsquare
 
 five : m31 .add (m31 .mul (two m31) (two m31)) (m31 .one) ≡ element 5
@@ -71,7 +71,7 @@ unfolding residue zadd zmul
 five = refl
 
 -- (a + bi)² = 2 + i would give (a² + b²)² = (a² - b²)² + (2ab)² = 5
-twoPlusI-nonsquare : (p : Z P × Z P) → ¬ (cm31 .mul p p ≡ twoPlusI m31)
+pub twoPlusI-nonsquare : (p : Z P × Z P) → ¬ (cm31 .mul p p ≡ twoPlusI m31)
 twoPlusI-nonsquare p e =
     five-nonsquare (m31 .add (m31 .mul (p .0) (p .0)) (m31 .mul (p .1) (p .1)))
     (solveFrom m31 m31-laws (p .0 ∷ p .1 ∷ [])
@@ -85,5 +85,5 @@ twoPlusI-nonsquare p e =
     im : Expr
     im = complex exprs .mul (v0, v1) (v0, v1) .1
 
-pub qm31-field : Field qm31
+abbrev pub qm31-field : Field qm31
 qm31-field = ext-field cm31 cm31-field (twoPlusI m31) twoPlusI-nonsquare

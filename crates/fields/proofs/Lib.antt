@@ -1,3 +1,4 @@
 pub mod Answers
 pub mod Reductions
 pub mod Powers
+pub mod Pairs

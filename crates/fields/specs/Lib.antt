@@ -2,7 +2,10 @@
 pub mod Refusal
 pub mod Words
 pub mod M31
+pub mod CM31
+pub mod QM31
 -- laws
+pub mod Representation
 pub mod Elements
 pub mod Inverse
 pub mod Squarings

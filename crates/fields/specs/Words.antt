@@ -1,6 +1,8 @@
--- Arithmetic modulo P on numbers: what the contracts of M31 speak of.
+-- Arithmetic modulo P on numbers, and on pairs of them: what the contracts of the fields speak of.
 use Prim.Native.Nat.{ℕ, _+_, _*_, _-_, _%_, _^_}
 use Rattle.algebra.specs.Ring.{Ops}
+use Rattle.algebra.specs.Extension.{extInverse}
+use Rattle.algebra.specs.Tower.{complex, twoPlusI, quartic}
 use Rattle.algebra.specs.M31.{P}
 
 abbrev pub addP : ℕ → ℕ → ℕ
@@ -27,3 +29,19 @@ invP a = powP a (P - 2)
 -- the same as operations without laws
 abbrev pub words31 : Ops
 words31 = record { El = ℕ; zero = 0; one = 1; add = addP; mul = mulP; neg = negP }
+
+-- a + bi with i² = -1, as the pair (a, b)
+abbrev pub complexWords : Ops
+complexWords = complex words31
+
+-- (a - bi) / (a² + b²), which is the inverse of a + bi ≠ 0 (`Inverse`)
+abbrev pub complexInverse : ℕ × ℕ → ℕ × ℕ
+complexInverse = extInverse words31 (negP 1) invP
+
+-- p + qu with u² = 2 + i, as the pair (p, q) of such pairs
+abbrev pub quarticWords : Ops
+quarticWords = quartic words31
+
+-- (p - qu) / (p² - (2 + i) q²), which is the inverse of p + qu ≠ 0 (`Inverse`)
+abbrev pub quarticInverse : (ℕ × ℕ) × (ℕ × ℕ) → (ℕ × ℕ) × (ℕ × ℕ)
+quarticInverse = extInverse complexWords (twoPlusI words31) complexInverse

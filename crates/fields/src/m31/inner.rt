@@ -60,7 +60,7 @@ pub fn mul(a: u32, b: u32) -> u32
 }
 
 // the exponent high 2^64 + low is not 0
-fn more(high: u64, low: u64) -> bool
+pub fn more(high: u64, low: u64) -> bool
     ensures { λ r. ⌜ r ≡ ltb 0 (high * 2 ^ 64 + low) ⌝ }
 {
     if 0 < high {

@@ -1,0 +1,27 @@
+use borrow.Author.Needs.{needs}
+use Rattle.fields.specs.CM31.{mulBaseAnswer}
+use Rattle.fields.proofs.Answers.{answers, complexes}
+use Rattle.fields.proofs.cm31.CM31.mul_m31.Statement.{statement}
+use Rattle.fields.proofs.cm31.CM31.mul_m31.Tie as tie
+
+is-reduced-requires : tie.Need-is-reduced-requires
+is-reduced-requires c κs = search needs
+
+returns : tie.Need-returns
+unfolding mulBaseAnswer
+returns c = search (answers, complexes, needs)
+
+returns-2 : tie.Need-returns-2
+unfolding mulBaseAnswer
+returns-2 c = search (answers, complexes, needs)
+
+mul-m31-requires : tie.Need-mul-m31-requires
+mul-m31-requires c κs = search (answers, complexes, needs)
+
+returns-3 : tie.Need-returns-3
+unfolding mulBaseAnswer
+returns-3 c = search (answers, complexes, needs)
+
+pub mul-m31-spec : {M : Type 1} → statement M
+mul-m31-spec =
+    tie.close (tie.spec is-reduced-requires returns returns-2 mul-m31-requires returns-3)

@@ -1,0 +1,16 @@
+use borrow.Author.Needs.{needs}
+use Rattle.fields.proofs.Pairs.{pair}
+use Rattle.fields.proofs.cm31.inner.add.Statement.{statement}
+use Rattle.fields.proofs.cm31.inner.add.Tie as tie
+
+add-requires : tie.Need-add-requires
+add-requires c κs = search needs
+
+add-requires-2 : tie.Need-add-requires-2
+add-requires-2 c κs = search needs
+
+returns : tie.Need-returns
+returns c = (pair (search needs) (search needs), (search needs, search needs))
+
+pub add-spec : {M : Type 1} → statement M
+add-spec = tie.close (tie.spec add-requires add-requires-2 returns)

@@ -1,0 +1,16 @@
+use borrow.Author.Needs.{needs}
+use Rattle.fields.proofs.Pairs.{pair}
+use Rattle.fields.proofs.cm31.inner.neg.Statement.{statement}
+use Rattle.fields.proofs.cm31.inner.neg.Tie as tie
+
+neg-requires : tie.Need-neg-requires
+neg-requires c κs = search needs
+
+neg-requires-2 : tie.Need-neg-requires-2
+neg-requires-2 c κs = search needs
+
+returns : tie.Need-returns
+returns c = (pair (search needs) (search needs), (search needs, search needs))
+
+pub neg-spec : {M : Type 1} → statement M
+neg-spec = tie.close (tie.spec neg-requires neg-requires-2 returns)

@@ -1,0 +1,27 @@
+use borrow.Author.Needs.{needs}
+use Rattle.fields.specs.QM31.{addBaseAnswer}
+use Rattle.fields.proofs.Answers.{answers, quartics}
+use Rattle.fields.proofs.qm31.QM31.add_m31.Statement.{statement}
+use Rattle.fields.proofs.qm31.QM31.add_m31.Tie as tie
+
+is-reduced-requires : tie.Need-is-reduced-requires
+is-reduced-requires c κs = search needs
+
+returns : tie.Need-returns
+unfolding addBaseAnswer
+returns c = search (answers, quartics, needs)
+
+returns-2 : tie.Need-returns-2
+unfolding addBaseAnswer
+returns-2 c = search (answers, quartics, needs)
+
+add-m31-requires : tie.Need-add-m31-requires
+add-m31-requires c κs = search (answers, quartics, needs)
+
+returns-3 : tie.Need-returns-3
+unfolding addBaseAnswer
+returns-3 c = search (answers, quartics, needs)
+
+pub add-m31-spec : {M : Type 1} → statement M
+add-m31-spec =
+    tie.close (tie.spec is-reduced-requires returns returns-2 add-m31-requires returns-3)

@@ -1,0 +1,27 @@
+use borrow.Author.Needs.{needs}
+use Rattle.fields.specs.QM31.{subBaseAnswer}
+use Rattle.fields.proofs.Answers.{answers, quartics}
+use Rattle.fields.proofs.qm31.QM31.sub_m31.Statement.{statement}
+use Rattle.fields.proofs.qm31.QM31.sub_m31.Tie as tie
+
+is-reduced-requires : tie.Need-is-reduced-requires
+is-reduced-requires c κs = search needs
+
+returns : tie.Need-returns
+unfolding subBaseAnswer
+returns c = search (answers, quartics, needs)
+
+returns-2 : tie.Need-returns-2
+unfolding subBaseAnswer
+returns-2 c = search (answers, quartics, needs)
+
+sub-m31-requires : tie.Need-sub-m31-requires
+sub-m31-requires c κs = search (answers, quartics, needs)
+
+returns-3 : tie.Need-returns-3
+unfolding subBaseAnswer
+returns-3 c = search (answers, quartics, needs)
+
+pub sub-m31-spec : {M : Type 1} → statement M
+sub-m31-spec =
+    tie.close (tie.spec is-reduced-requires returns returns-2 sub-m31-requires returns-3)

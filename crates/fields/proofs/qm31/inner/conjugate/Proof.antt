@@ -1,0 +1,14 @@
+use mathlib.Core.Path.{refl}
+use borrow.Author.Needs.{needs}
+use Rattle.fields.proofs.Pairs.{pair}
+use Rattle.fields.proofs.qm31.inner.conjugate.Statement.{statement}
+use Rattle.fields.proofs.qm31.inner.conjugate.Tie as tie
+
+neg-requires : tie.Need-neg-requires
+neg-requires c κs = search needs
+
+returns : tie.Need-returns
+returns c = (pair refl (c .neg .ensures .0), (search needs, c .neg .ensures .1))
+
+pub conjugate-spec : {M : Type 1} → statement M
+conjugate-spec = tie.close (tie.spec neg-requires returns)
