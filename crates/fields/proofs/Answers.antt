@@ -3,7 +3,7 @@ use mathlib.Core.Path.{_≡_, sym, _∙_, ap}
 use mathlib.Core.Bool.{Bool, true, false, not, cond, _&&_, and-eq-true-iff}
 use Prim.Native.Nat.{ℕ, _≤_, _<_}
 use lib.Dec.{leb, ltb, eqb}
-use borrow.Author.Tests.{le-leb, lt-leb, eq-eqb, ne-eqb, ltb-true, not-true, not-false}
+use borrow.Author.Tests.{le-leb, lt-leb, lt-ltb, le-ltb, eq-eqb, ne-eqb, ltb-true, not-true, not-false}
 use Rattle.algebra.specs.M31.{P}
 use Rattle.fields.specs.M31.{ofWord}
 use Rattle.fields.specs.CM31.{pairOf, ofPair}
@@ -22,6 +22,12 @@ at-leb r x y m n h e = rw (le-leb m n h) e
 
 pub no-leb : {A : Type 0} (r x y : A) (m n : ℕ) → n < m → r ≡ y → r ≡ cond (leb m n) x y
 no-leb r x y m n h e = rw (lt-leb m n h) e
+
+pub at-ltb : {A : Type 0} (r x y : A) (m n : ℕ) → m < n → r ≡ x → r ≡ cond (ltb m n) x y
+at-ltb r x y m n h e = rw (lt-ltb m n h) e
+
+pub no-ltb : {A : Type 0} (r x y : A) (m n : ℕ) → n ≤ m → r ≡ y → r ≡ cond (ltb m n) x y
+no-ltb r x y m n h e = rw (le-ltb m n h) e
 
 pub at-eqb : {A : Type 0} (r x y : A) (m n : ℕ) → m ≡ n → r ≡ x → r ≡ cond (eqb m n) x y
 at-eqb r x y m n h e = rw (eq-eqb m n h) e
@@ -49,11 +55,17 @@ first-fails t u e = rw e
 pub first-holds : (t u : Bool) → t ≡ true → u ≡ (t && u)
 first-holds t u e = rw e
 
+pub second-fails : (t u v : Bool) → t ≡ true → u ≡ false → false ≡ (t && u && v)
+second-fails t u v e f = rw (e, f)
+
+pub all-three : (t u v : Bool) → t ≡ true → u ≡ true → v ≡ (t && u && v)
+all-three t u v e f = rw (e, f)
+
 -- an accepted word
 pub word-value : (w v : ℕ) → w ≡ v → Value (ofWord w) ≡ Value (ofWord v)
 word-value w v e = ap (λ (t : ℕ). Value (ofWord t)) e
 
-pub ruleset answers = (at-leb, no-leb, at-eqb, no-eqb, at-test, no-test, at-not, no-not, word-value)
+pub ruleset answers = (at-leb, no-leb, at-ltb, no-ltb, at-eqb, no-eqb, at-test, no-test, at-not, no-not, word-value)
 
 -- CM31
 both-below : (a b : ℕ) → ltb a P && ltb b P ≡ true → (a < P) × (b < P)

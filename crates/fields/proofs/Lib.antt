@@ -2,3 +2,8 @@ pub mod Answers
 pub mod Reductions
 pub mod Powers
 pub mod Pairs
+pub mod Montgomery
+pub mod Units
+pub mod Search
+pub mod Batches
+pub mod Invertible

@@ -14,6 +14,9 @@ use Rattle.fields.specs.Inverse.{m31-representation}
 pub pair : {A B : Type 0} {a c : A} {b d : B} → a ≡ c → b ≡ d → _≡_ {A = A × B} (a, b) (c, d)
 pair e f = λ i. (e i, f i)
 
+pub four : {A : Type 0} {a a′ b b′ c c′ d d′ : A} → a ≡ a′ → b ≡ b′ → c ≡ c′ → d ≡ d′ → _≡_ {A = (A × A) × (A × A)} ((a, b), (c, d)) ((a′, b′), (c′, d′))
+four e f g h = pair (pair e f) (pair g h)
+
 -- the product and the inverse of an extension, part by part
 module _ (O : Ops) (r : O .El) where
   pub ext-product : (a b : O .El × O .El) {ac bd ad bc rest first second : O .El}

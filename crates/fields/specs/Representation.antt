@@ -4,6 +4,7 @@ use mathlib.Core.Path.{_≡_, sym, _∙_, ap, ap₂}
 use mathlib.Core.List.{List, [], _∷_, map}
 use lib.Dec.{T}
 use Rattle.algebra.specs.Ring.{Ops}
+use Rattle.algebra.specs.Ring as R
 use Rattle.algebra.specs.Polynomial.{Expr, _:+_, _:*_, :-_, v0, v1, v2, v3, equal}
 use Rattle.algebra.specs.Solver.{value, solve}
 use Rattle.algebra.specs.Power.{pow, square-and-multiply}
@@ -61,6 +62,13 @@ module _ (W K : Ops) (H : Representation W K) where
   mul-unit a b u v = (
     mul-reduced a b,
     λ e. F.mul-nonzero K field (element a) (element b) (nonzero a u) (nonzero b v) (sym (to-mul a b) ∙ ap element e ∙ to-zero),
+  )
+
+  pub inverse-unit : (a : W .El) → Unit a → Unit (inverse a)
+  inverse-unit a u = (
+    inverse-reduced a,
+    λ z. field .one-nonzero (sym to-one ∙ sym (ap element (mul-inverse a u)) ∙ ap (λ t. element (W .mul a t)) z ∙ to-mul a (W .zero)
+        ∙ ap (_⊗_ (element a)) to-zero ∙ R.mul-zero K (field .laws) (element a)),
   )
 
   product-inverse : (a b : W .El) → Unit a → Unit b → element a ⊗ element b ⊗ element (inverse (W .mul a b)) ≡ 𝟙

@@ -1,5 +1,6 @@
 // The fields (stwo's core/fields): M31, CM31 and QM31, and what every layer shares, refusals and answers.
 pub mod answer;
+pub mod batch;
 pub mod cm31;
 pub mod m31;
 pub mod qm31;

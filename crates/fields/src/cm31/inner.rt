@@ -13,6 +13,8 @@ use crate::m31::M31;
 use crate::m31::P;
 use crate::m31::inner as m31;
 
+pub mod batch;
+
 pub fn is_reduced(a: CM31) -> bool
     ensures { λ r. ⌜ r ≡ reduced a ⌝ }
 {

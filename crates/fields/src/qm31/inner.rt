@@ -15,6 +15,8 @@ use crate::m31::M31;
 use crate::m31::inner as m31;
 use crate::qm31::QM31;
 
+pub mod batch;
+
 pub fn is_reduced(a: QM31) -> bool
     ensures { λ r. ⌜ r ≡ reduced a ⌝ }
 {
