@@ -11,6 +11,9 @@
 
 typedef struct { uint32_t number; uint64_t position; uint32_t value; } tari_m31_reply;
 typedef struct { uint32_t number; uint64_t position; uint32_t value; } tari_bool_reply;
+typedef struct { uint32_t number; uint64_t position; uint32_t a; uint32_t b; } tari_cm31_reply;
+typedef struct { uint32_t number; uint64_t position; uint32_t a; uint32_t b; uint32_t c; uint32_t d; } tari_qm31_reply;
+typedef struct { uint32_t number; uint64_t position; } tari_write_reply;
 
 /* M31: one word below P = 2147483647. */
 tari_m31_reply tari_m31_partial_reduce(uint32_t val);
@@ -33,5 +36,72 @@ tari_m31_reply tari_m31_sqn(uint32_t v, uint64_t n);
 tari_m31_reply tari_m31_inverse(uint32_t a);
 tari_m31_reply tari_m31_div(uint32_t a, uint32_t b);
 tari_m31_reply tari_m31_complex_conjugate(uint32_t a);
+
+/* CM31: a + bi with i^2 = -1, the words a and b. */
+tari_cm31_reply tari_cm31_zero(void);
+tari_cm31_reply tari_cm31_one(void);
+tari_bool_reply tari_cm31_is_zero(uint32_t a0, uint32_t a1);
+tari_cm31_reply tari_cm31_from_u32_unchecked(uint32_t a, uint32_t b);
+tari_cm31_reply tari_cm31_from_m31(uint32_t a, uint32_t b);
+tari_cm31_reply tari_cm31_from_base(uint32_t x);
+tari_cm31_reply tari_cm31_add(uint32_t a0, uint32_t a1, uint32_t b0, uint32_t b1);
+tari_cm31_reply tari_cm31_sub(uint32_t a0, uint32_t a1, uint32_t b0, uint32_t b1);
+tari_cm31_reply tari_cm31_neg(uint32_t a0, uint32_t a1);
+tari_cm31_reply tari_cm31_mul(uint32_t a0, uint32_t a1, uint32_t b0, uint32_t b1);
+tari_cm31_reply tari_cm31_square(uint32_t a0, uint32_t a1);
+tari_cm31_reply tari_cm31_pow(uint32_t a0, uint32_t a1, uint64_t exp_high, uint64_t exp_low);
+tari_cm31_reply tari_cm31_inverse(uint32_t a0, uint32_t a1);
+tari_cm31_reply tari_cm31_div(uint32_t a0, uint32_t a1, uint32_t b0, uint32_t b1);
+tari_cm31_reply tari_cm31_complex_conjugate(uint32_t a0, uint32_t a1);
+tari_m31_reply tari_cm31_try_into_m31(uint32_t a0, uint32_t a1);
+tari_cm31_reply tari_cm31_add_m31(uint32_t a0, uint32_t a1, uint32_t b);
+tari_cm31_reply tari_cm31_sub_m31(uint32_t a0, uint32_t a1, uint32_t b);
+tari_cm31_reply tari_cm31_mul_m31(uint32_t a0, uint32_t a1, uint32_t b);
+tari_cm31_reply tari_cm31_div_m31(uint32_t a0, uint32_t a1, uint32_t b);
+tari_cm31_reply tari_m31_add_cm31(uint32_t a, uint32_t b0, uint32_t b1);
+tari_cm31_reply tari_m31_sub_cm31(uint32_t a, uint32_t b0, uint32_t b1);
+tari_cm31_reply tari_m31_mul_cm31(uint32_t a, uint32_t b0, uint32_t b1);
+tari_cm31_reply tari_m31_div_cm31(uint32_t a, uint32_t b0, uint32_t b1);
+
+/* QM31: (a + bi) + (c + di)u with u^2 = 2 + i, the words a, b, c and d. */
+tari_qm31_reply tari_qm31_zero(void);
+tari_qm31_reply tari_qm31_one(void);
+tari_bool_reply tari_qm31_is_zero(uint32_t a0, uint32_t a1, uint32_t a2, uint32_t a3);
+tari_qm31_reply tari_qm31_from_u32_unchecked(uint32_t a, uint32_t b, uint32_t c, uint32_t d);
+tari_qm31_reply tari_qm31_from_m31(uint32_t a, uint32_t b, uint32_t c, uint32_t d);
+tari_qm31_reply tari_qm31_from_m31_array(uint32_t a, uint32_t b, uint32_t c, uint32_t d);
+tari_qm31_reply tari_qm31_to_m31_array(uint32_t a0, uint32_t a1, uint32_t a2, uint32_t a3);
+tari_qm31_reply tari_qm31_from_base(uint32_t x);
+tari_qm31_reply tari_qm31_from_usize(uint64_t value);
+tari_qm31_reply tari_qm31_from_u32(uint32_t value);
+tari_qm31_reply tari_qm31_from_i32(int32_t value);
+tari_qm31_reply tari_qm31_from_partial_evals(uint32_t a0, uint32_t a1, uint32_t a2, uint32_t a3, uint32_t b0, uint32_t b1, uint32_t b2, uint32_t b3, uint32_t c0, uint32_t c1, uint32_t c2, uint32_t c3, uint32_t d0, uint32_t d1, uint32_t d2, uint32_t d3);
+tari_qm31_reply tari_qm31_add(uint32_t a0, uint32_t a1, uint32_t a2, uint32_t a3, uint32_t b0, uint32_t b1, uint32_t b2, uint32_t b3);
+tari_qm31_reply tari_qm31_sub(uint32_t a0, uint32_t a1, uint32_t a2, uint32_t a3, uint32_t b0, uint32_t b1, uint32_t b2, uint32_t b3);
+tari_qm31_reply tari_qm31_neg(uint32_t a0, uint32_t a1, uint32_t a2, uint32_t a3);
+tari_qm31_reply tari_qm31_mul(uint32_t a0, uint32_t a1, uint32_t a2, uint32_t a3, uint32_t b0, uint32_t b1, uint32_t b2, uint32_t b3);
+tari_qm31_reply tari_qm31_mul_cm31(uint32_t a0, uint32_t a1, uint32_t a2, uint32_t a3, uint32_t b0, uint32_t b1);
+tari_qm31_reply tari_qm31_square(uint32_t a0, uint32_t a1, uint32_t a2, uint32_t a3);
+tari_qm31_reply tari_qm31_pow(uint32_t a0, uint32_t a1, uint32_t a2, uint32_t a3, uint64_t exp_high, uint64_t exp_low);
+tari_qm31_reply tari_qm31_inverse(uint32_t a0, uint32_t a1, uint32_t a2, uint32_t a3);
+tari_qm31_reply tari_qm31_div(uint32_t a0, uint32_t a1, uint32_t a2, uint32_t a3, uint32_t b0, uint32_t b1, uint32_t b2, uint32_t b3);
+tari_qm31_reply tari_qm31_complex_conjugate(uint32_t a0, uint32_t a1, uint32_t a2, uint32_t a3);
+tari_m31_reply tari_qm31_try_into_m31(uint32_t a0, uint32_t a1, uint32_t a2, uint32_t a3);
+tari_qm31_reply tari_qm31_add_m31(uint32_t a0, uint32_t a1, uint32_t a2, uint32_t a3, uint32_t b);
+tari_qm31_reply tari_qm31_sub_m31(uint32_t a0, uint32_t a1, uint32_t a2, uint32_t a3, uint32_t b);
+tari_qm31_reply tari_qm31_mul_m31(uint32_t a0, uint32_t a1, uint32_t a2, uint32_t a3, uint32_t b);
+tari_qm31_reply tari_qm31_div_m31(uint32_t a0, uint32_t a1, uint32_t a2, uint32_t a3, uint32_t b);
+tari_qm31_reply tari_m31_add_qm31(uint32_t a, uint32_t b0, uint32_t b1, uint32_t b2, uint32_t b3);
+tari_qm31_reply tari_m31_sub_qm31(uint32_t a, uint32_t b0, uint32_t b1, uint32_t b2, uint32_t b3);
+tari_qm31_reply tari_m31_mul_qm31(uint32_t a, uint32_t b0, uint32_t b1, uint32_t b2, uint32_t b3);
+tari_qm31_reply tari_m31_div_qm31(uint32_t a, uint32_t b0, uint32_t b1, uint32_t b2, uint32_t b3);
+
+/* Batch inversion: a column and its destination are 1, 2 or 4 words an element; chunk sizes count elements. */
+tari_write_reply tari_m31_batch_inverse_in_place(const uint32_t *column, uint64_t column_len, uint32_t *dst, uint64_t dst_len);
+tari_write_reply tari_m31_batch_inverse_chunked(const uint32_t *column, uint64_t column_len, uint32_t *dst, uint64_t dst_len, uint64_t chunk_size);
+tari_write_reply tari_cm31_batch_inverse_in_place(const uint32_t *column, uint64_t column_len, uint32_t *dst, uint64_t dst_len);
+tari_write_reply tari_cm31_batch_inverse_chunked(const uint32_t *column, uint64_t column_len, uint32_t *dst, uint64_t dst_len, uint64_t chunk_size);
+tari_write_reply tari_qm31_batch_inverse_in_place(const uint32_t *column, uint64_t column_len, uint32_t *dst, uint64_t dst_len);
+tari_write_reply tari_qm31_batch_inverse_chunked(const uint32_t *column, uint64_t column_len, uint32_t *dst, uint64_t dst_len, uint64_t chunk_size);
 
 #endif

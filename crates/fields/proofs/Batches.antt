@@ -1,5 +1,5 @@
 -- What the checks of a batch tell, and the parts that a column is inverted in.
-use Prim.Native.Nat.{ℕ, zero, suc, _+_, _-_, _*_, _/_, _%_, _≤_, _<_}
+use Prim.Native.Nat.{ℕ, _+_, _-_, _*_, _/_, _%_, _≤_, _<_}
 use mathlib.Core.Path.{_≡_, refl, sym, _∙_, ap, ap₂, subst, subst⁻¹}
 use mathlib.Core.Bool.{Bool, true, false, cond, _&&_, and-eq-true-iff, true≢false}
 use mathlib.Core.List.{List, _++_}
@@ -7,7 +7,7 @@ use native.Mathlib.Nat as N
 use native.Mathlib.Decide.{decLt}
 use native.Mathlib.Omega.{arith}
 use lib.Dec.{leb, ltb, eqb}
-use lib.ListN.{length, getD, take, drop, length-take, length-drop, List·getD-append}
+use lib.ListN.{length, getD, take, drop, List·getD-append}
 use lib.Seq.{getD-take, getD-drop, getD-append-add, length-take-le}
 use borrow.Author.Tests.{leb-true, leb-false, ltb-false, le-ltb, eqb-true, eqb-false}
 use borrow.Rule.Slice.PartMut.{midOf, putMid, mid-len}
@@ -22,7 +22,7 @@ use Rattle.fields.specs.declared.answer.WriteAnswer.the-variants.{Writte
 use Rattle.fields.specs.declared.refusal.Refusal.{Refusal}
 use Rattle.fields.specs.declared.refusal.Refusal.the-variants.{Length, Chunk, Word, Inverse}
 use Rattle.fields.proofs.Search.{None, first-none, none-found}
-use Rattle.fields.proofs.Montgomery.{within, is-inverted, inverted-holds, length-inverted}
+use Rattle.fields.proofs.Montgomery.{within, inverted-holds, length-inverted}
 
 abbrev pub isBad : List ℕ → ℕ → Bool
 isBad column i = leb P (getD column i 0)

@@ -7,3 +7,4 @@ pub mod Units
 pub mod Search
 pub mod Batches
 pub mod Invertible
+pub mod Wide

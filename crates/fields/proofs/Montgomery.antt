@@ -118,6 +118,100 @@ module _ (U : Units) where
     pub holds-below : (m : ℕ) → m ≤ k → Holds U f 0 k dst → Holds U f 0 m after
     holds-below m le h = record { holds = λ j lo hi. other j (inl (omega arith)) ∙ h .holds j lo (omega arith) }
 
+  -- going up: the elements below k are the products, and whole is the last of them
+  pub record Up (column dst : List ℕ) (n k : ℕ) (whole : El) : Type 0 where
+    pub some : 0 < k
+    pub most : k ≤ n
+    pub long : length dst ≡ length column
+    pub last : whole ≡ product U column (k - 1)
+    pub below : Holds U (product U column) 0 k dst
+
+  -- going down: the elements below k are still the products, those above it inverses, and rest is the inverse of the product up to k
+  pub record Down (column dst : List ℕ) (n k : ℕ) (rest : El) : Type 0 where
+    pub low : k < n
+    pub long : length dst ≡ length column
+    pub inverted-product : rest ≡ inverse (product U column k)
+    pub below : Holds U (product U column) 0 k dst
+    pub above : Holds U (inverses U column) (k + 1) n dst
+
+  module _ (column : List ℕ) (n : ℕ) (c : Column U n column) where
+    room : (dst : List ℕ) (k : ℕ) → length dst ≡ length column → k < n → k * width + width ≤ length dst
+    room dst k l h = omega (arith, within width k n h, c .whole)
+
+    pub up-start : (dst after : List ℕ) (whole : El) → 0 < n → length dst ≡ length column → whole ≡ at U column 0 → after ≡ write dst (0 * width) whole
+        → Up column after n 1 whole
+    unfolding product
+    up-start dst after whole h l e wrote = record {
+      some = omega arith;
+      most = h;
+      long = length-after (product U column) dst 0 whole after wrote ∙ l;
+      last = e;
+      below = holds-next (product U column) dst 0 whole after wrote (holds-none (product U column) dst 0 0 (omega arith)) (room dst 0 l h) e;
+    }
+
+    pub up-unit : (dst : List ℕ) (k : ℕ) (whole : El) → Up column dst n k whole → Unit whole
+    up-unit dst k whole u =
+        same-unit whole (product U column (k - 1)) (u .last) (product-unit column n (k - 1) c (omega (arith, u .some, u .most)))
+
+    pub up-next : (dst after : List ℕ) (k : ℕ) (whole a whole′ : El) → Up column dst n k whole → k < n → a ≡ at U column k → whole′ ≡ mul whole a
+        → after ≡ write dst (k * width) whole′ → Up column after n (k + 1) whole′
+    up-next dst after k whole a whole′ u h e f wrote =
+        let g = f ∙ next-product column k whole a (u .some) (u .last) e in
+        let same : k + 1 - 1 ≡ k = omega arith in record {
+          some = omega arith;
+          most = omega arith;
+          long = length-after (product U column) dst k whole′ after wrote ∙ u .long;
+          last = g;
+          below = holds-next (product U column) dst k whole′ after wrote (u .below) (room dst k (u .long) h) (g ∙ ap (product U column) same);
+        }
+
+    pub up-end : (dst : List ℕ) (k : ℕ) (whole : El) → Up column dst n k whole → n ≤ k → (whole ≡ product U column (n - 1)) × Holds U (product U column) 0 n dst
+    up-end dst k whole u h =
+        let all : k ≡ n = omega (arith, u .most) in
+        (u .last ∙ ap (λ (j : ℕ). product U column (j - 1)) all, holds-part (product U column) dst 0 0 k n (omega arith) h (u .below))
+
+    pub down-start : (dst : List ℕ) (rest : El) → 0 < n → length dst ≡ length column → Holds U (product U column) 0 n dst → rest ≡ inverse (product U column (n - 1))
+        → Down column dst n (n - 1) rest
+    down-start dst rest h l p e = record {
+      low = omega arith;
+      long = l;
+      inverted-product = e;
+      below = holds-part (product U column) dst 0 0 n (n - 1) (omega arith) (omega arith) p;
+      above = holds-none (inverses U column) dst (n - 1 + 1) n (omega arith);
+    }
+
+    pub down-unit : (dst : List ℕ) (k : ℕ) (rest : El) → Down column dst n k rest → Unit rest
+    down-unit dst k rest d = same-unit rest (inverse (product U column k)) (d .inverted-product) (U .inverse-unit _ (product-unit column n k c (d .low)))
+
+    last-is : (dst : List ℕ) (k : ℕ) (rest last : El) → Down column dst n k rest → 0 < k → last ≡ at U dst (k - 1) → last ≡ product U column (k - 1)
+    last-is dst k rest last d h e = e ∙ d .below .holds (k - 1) (omega arith) (omega arith)
+
+    pub last-unit : (dst : List ℕ) (k : ℕ) (rest last : El) → Down column dst n k rest → 0 < k → last ≡ at U dst (k - 1) → Unit last
+    last-unit dst k rest last d h e =
+        same-unit last (product U column (k - 1)) (last-is dst k rest last d h e) (product-unit column n (k - 1) c (omega (arith, d .low)))
+
+    pub down-next : (dst after : List ℕ) (k : ℕ) (rest a last x rest′ : El) → Down column dst n k rest → 0 < k → a ≡ at U column k → last ≡ at U dst (k - 1)
+        → x ≡ mul last rest → rest′ ≡ mul rest a → after ≡ write dst (k * width) x → Down column after n (k - 1) rest′
+    down-next dst after k rest a last x rest′ d h e f g i wrote =
+        let y = g ∙ inverse-at column n c k last rest h (d .low) (last-is dst k rest last d h f) (d .inverted-product) in record {
+          low = omega (arith, d .low);
+          long = length-after (inverses U column) dst k x after wrote ∙ d .long;
+          inverted-product = i ∙ rest-below column n c k rest a h (d .low) (d .inverted-product) e;
+          below = holds-below (product U column) dst k x after wrote (k - 1) (omega arith) (d .below);
+          above =
+              holds-part (inverses U column) after k (k - 1 + 1) n n (omega arith) (omega arith)
+              (holds-down (inverses U column) dst k x after wrote n (d .above) (room dst k (d .long) (d .low)) y);
+        }
+
+    pub down-end : (dst after : List ℕ) (k : ℕ) (rest : El) → Down column dst n k rest → k ≡ 0 → after ≡ write dst (0 * width) rest
+        → (length after ≡ length column) × Holds U (inverses U column) 0 n after
+    unfolding product
+    down-end dst after k rest d z wrote = (
+      length-after (inverses U column) dst 0 rest after wrote ∙ d .long,
+      holds-down (inverses U column) dst 0 rest after wrote n (holds-part (inverses U column) dst (k + 1) 1 n n (omega arith) (omega arith) (d .above))
+          (room dst 0 (d .long) (omega (arith, d .low))) (d .inverted-product ∙ ap (λ (j : ℕ). inverse (product U column j)) z),
+    )
+
   -- a list is known by its elements and the words after them
   pub unique : (f : ℕ → El) (n : ℕ) (l m : List ℕ) → length l ≡ length m → Holds U f 0 n l → Holds U f 0 n m
       → ((j : ℕ) → n * width ≤ j → getD l j 0 ≡ getD m j 0) → l ≡ m

@@ -2,9 +2,9 @@
 use Prim.Native.Nat.{ℕ, _<_}
 use mathlib.Core.Path.{_≡_, _∙_, ap, ap₂}
 use mathlib.Core.List.{[], _∷_}
-use Rattle.algebra.specs.Polynomial.{Expr, _:+_, _:*_, :-_, exprs, v0, v1}
+use Rattle.algebra.specs.Polynomial.{Expr, _:+_, :-_, exprs, v0, v1}
 use Rattle.algebra.specs.Ring.{Ops, sub}
-use Rattle.algebra.specs.Extension.{ext, extInverse}
+use Rattle.algebra.specs.Extension.{extInverse}
 use Rattle.algebra.specs.Tower.{complex, twoPlusI}
 use Rattle.algebra.specs.M31.{P, m31}
 use Rattle.fields.specs.Words.{addP, subP, negP, mulP, invP, words31, complexWords, complexInverse}
@@ -17,13 +17,8 @@ pair e f = λ i. (e i, f i)
 pub four : {A : Type 0} {a a′ b b′ c c′ d d′ : A} → a ≡ a′ → b ≡ b′ → c ≡ c′ → d ≡ d′ → _≡_ {A = (A × A) × (A × A)} ((a, b), (c, d)) ((a′, b′), (c′, d′))
 four e f g h = pair (pair e f) (pair g h)
 
--- the product and the inverse of an extension, part by part
+-- the inverse of an extension, part by part
 module _ (O : Ops) (r : O .El) where
-  pub ext-product : (a b : O .El × O .El) {ac bd ad bc rest first second : O .El}
-      → ac ≡ O .mul (a .0) (b .0) → bd ≡ O .mul (a .1) (b .1) → ad ≡ O .mul (a .0) (b .1) → bc ≡ O .mul (a .1) (b .0) → rest ≡ O .mul r bd
-      → first ≡ O .add ac rest → second ≡ O .add ad bc → (first, second) ≡ ext O r .mul a b
-  ext-product a b e f g h k l m = pair (l ∙ ap₂ (O .add) e (k ∙ ap (O .mul r) f)) (m ∙ ap₂ (O .add) g h)
-
   pub ext-inverse : (inv : O .El → O .El) (a : O .El × O .El) {square bb rest norm over first negated second : O .El}
       → square ≡ O .mul (a .0) (a .0) → bb ≡ O .mul (a .1) (a .1) → rest ≡ O .mul r bb → norm ≡ sub O square rest → over ≡ inv norm
       → first ≡ O .mul (a .0) over → negated ≡ O .mul (a .1) over → second ≡ O .neg negated → (first, second) ≡ extInverse O r inv a
@@ -34,11 +29,6 @@ module _ (O : Ops) (r : O .El) where
       o = k ∙ ap inv (h ∙ ap₂ (sub O) e (g ∙ ap (O .mul r) f))
 
 -- CM31
-pub product : (a b : ℕ × ℕ) {ac bd ad bc re im : ℕ} → ac ≡ mulP (a .0) (b .0) → bd ≡ mulP (a .1) (b .1) → ad ≡ mulP (a .0) (b .1) → bc ≡ mulP (a .1) (b .0)
-    → re ≡ subP ac bd → im ≡ addP ad bc → (re, im) ≡ complexWords .mul a b
-product a b e f g h k l =
-    pair (k ∙ ap₂ subP e f ∙ R.sub-minus-one words31 m31 m31-representation (mulP (a .0) (b .0)) (mulP (a .1) (b .1))) (l ∙ ap₂ addP g h)
-
 -- the parts of (2 + i)(a + bi), and of what the code computes
 abbrev byTwoPlusI : Expr × Expr
 byTwoPlusI = complex exprs .mul (twoPlusI exprs) (v0, v1)

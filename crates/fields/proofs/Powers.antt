@@ -1,11 +1,14 @@
 -- Steps of the loops and chains that compute powers modulo P.
-use Prim.Native.Nat.{ℕ, suc, _*_, _+_, _/_, _%_, _^_, _<_}
+use Prim.Native.Nat.{ℕ, suc, _*_, _+_, _^_, _<_}
 use mathlib.Core.Path.{_≡_, sym, _∙_, ap, ap₂}
 use native.Mathlib.Nat as N
-use Rattle.algebra.specs.Power.{pow, pow-zero, pow-one, pow-add, pow-mul, pow-square, square-and-multiply}
+use Rattle.algebra.specs.Power.{pow, pow-one, pow-add, pow-mul, pow-square}
+use Rattle.algebra.specs.Homomorphism.{to-pow}
 use Rattle.algebra.specs.M31.{P, P-pos, m31, m31-laws, element}
-use Rattle.fields.specs.Words.{mulP, powP}
-use Rattle.fields.specs.Elements.{element-homomorphism, element-pow, powP-below, powP-unique}
+use Rattle.fields.specs.Words.{mulP, powP, words31}
+use Rattle.fields.specs.Elements.{element-homomorphism, element-injective, element-pow, powP-below, powP-unique}
+use Rattle.fields.specs.Representation.{pow-reduced}
+use Rattle.fields.specs.Inverse.{m31-representation}
 
 mulP-below : (a b : ℕ) → mulP a b < P
 mulP-below a b = N.mod-lt (a * b) P-pos
@@ -13,31 +16,11 @@ mulP-below a b = N.mod-lt (a * b) P-pos
 pub powP-one : (a : ℕ) → a < P → powP a 1 ≡ a
 powP-one a h = sym (powP-unique a a 1 h (sym (pow-one m31 m31-laws (element a))))
 
--- a times b to the power of a bit
-pub mul-bit-one : (a b bit : ℕ) → b < P → bit ≡ 1 → mulP a b ≡ mulP a (powP b bit)
-mul-bit-one a b bit h e = ap (mulP a) (sym (powP-one b h) ∙ ap (powP b) (sym e))
-
-pub mul-bit-zero : (a b bit : ℕ) → a < P → bit ≡ 0 → a ≡ mulP a (powP b bit)
-mul-bit-zero a b bit h e =
-    sym (ap (λ (t : ℕ). mulP a (powP b t)) e ∙ ap (λ (t : ℕ). mulP a (t % P)) (N.pow-zero b) ∙ ap (λ (t : ℕ). t % P) (N.mul-one a) ∙ N.mod-eq-of-lt h)
-
--- one step of square-and-multiply
-pub pow-step : (res base n : ℕ)
-    → m31 .mul (element (mulP res (powP base (n % 2)))) (pow m31 (element (mulP base base)) (n / 2)) ≡ m31 .mul (element res) (pow m31 (element base) n)
-pow-step res base n =
-    ap₂ (m31 .mul)
-    (element-homomorphism .to-mul res (powP base (n % 2)) ∙ ap (m31 .mul (element res)) (element-pow base (n % 2)))
-    (ap (λ t. pow m31 t (n / 2)) (element-homomorphism .to-mul base base))
-    ∙ square-and-multiply m31 m31-laws (element res) (element base) n
-
--- before the first step, and after the last
-pub pow-start : (a n : ℕ) → m31 .mul (element 1) (pow m31 (element a) n) ≡ pow m31 (element a) n
-pow-start a n = m31-laws .mul-comm (element 1) (pow m31 (element a) n) ∙ m31-laws .mul-one (pow m31 (element a) n)
-
-pub pow-end : (res base a m n : ℕ) → res < P → m ≡ 0 → m31 .mul (element res) (pow m31 (element base) m) ≡ pow m31 (element a) n → res ≡ powP a n
-pow-end res base a m n h z e =
-    powP-unique res a n h
-    (sym (m31-laws .mul-one (element res)) ∙ ap (m31 .mul (element res)) (sym (pow-zero m31 m31-laws (element base)) ∙ ap (pow m31 (element base)) (sym z)) ∙ e)
+-- powers modulo P as powers of the operations on words
+pub powP-pow : (a n : ℕ) → powP a n ≡ pow words31 a n
+powP-pow a n =
+    element-injective (powP a n) (pow words31 a n) (powP-below a n) (pow-reduced words31 m31 m31-representation a n)
+    (element-pow a n ∙ sym (to-pow words31 m31 element element-homomorphism a n))
 
 -- one squaring of several
 pub square-step : (a k : ℕ) → powP (mulP a a) (2 ^ k) ≡ powP a (2 ^ suc k)

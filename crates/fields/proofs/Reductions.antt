@@ -1,6 +1,6 @@
 -- The reductions modulo P by halves of 31 bits.
 use Prim.Native.Nat.{ℕ, zero, suc, _+_, _-_, _*_, _/_, _%_, _<_, _≤_}
-use mathlib.Core.Path.{_≡_, refl}
+use mathlib.Core.Path.{_≡_, refl, _∙_}
 use native.Mathlib.Nat.{mul-le-mul}
 use native.Mathlib.Decide.{decLt}
 use native.Mathlib.Omega.{arith}
@@ -28,6 +28,23 @@ product-below a b ha hb =
     let la : a ≤ 2147483646 = omega arith in
     let lb : b ≤ 2147483646 = omega arith in
     omega (arith, mul-le-mul la lb)
+
+-- the bits from 31 on, added to those below
+halves : (v : ℕ) → (v % 2147483648 + v / 2147483648) % P ≡ v % P
+halves v = omega arith
+
+-- the same twice: small enough to be folded
+pub halves-small : (v : ℕ) → v < 18446744073709551616
+    → (v % 2147483648 + v / 2147483648) % 2147483648 + (v % 2147483648 + v / 2147483648) / 2147483648 < 2 * P
+halves-small v h =
+    let a : v / 2147483648 < 8589934592 = omega arith in
+    let b : v % 2147483648 < 2147483648 = omega arith in
+    let c : (v % 2147483648 + v / 2147483648) / 2147483648 < 6 = omega arith in
+    let d : (v % 2147483648 + v / 2147483648) % 2147483648 < 2147483648 = omega arith in
+    omega arith
+
+pub halves-twice : (v : ℕ) → ((v % 2147483648 + v / 2147483648) % 2147483648 + (v % 2147483648 + v / 2147483648) / 2147483648) % P ≡ v % P
+halves-twice v = halves (v % 2147483648 + v / 2147483648) ∙ halves v
 
 subP-less : (a b : ℕ) → a < b → b < P → subP a b ≡ a + (P - b)
 subP-less a b l h =

@@ -1,11 +1,10 @@
 -- M31, CM31 and QM31 on words stand for the fields, and the inverse of each is its only inverse.
 use Prim.Native.Nat.{ℕ, _+_, _*_, _<_, _%_, _-_}
-use mathlib.Core.Path.{_≡_, refl, sym, _∙_, ap}
+use mathlib.Core.Path.{_≡_, sym, _∙_, ap}
 use native.Mathlib.Nat as N
 use lib.Dec.{lit<}
 use Rattle.algebra.specs.Power.{pow, pow-add, pow-one}
 use Rattle.algebra.specs.Field.{inv-unique}
-use Rattle.algebra.specs.ZMod.{Z, residue, zneg}
 use Rattle.algebra.specs.M31.{P, P-pos, m31, m31-laws, m31-field, m31-fermat-one, element}
 use Rattle.algebra.specs.Tower.{cm31, qm31, twoPlusI, minus-one-nonsquare, twoPlusI-nonsquare}
 use Rattle.algebra.specs.Homomorphism.{onPair}

@@ -1,5 +1,4 @@
 -- The elements of four lanes, as two pairs.
-use Prim.Native.Nat.{ℕ}
 use Rattle.fields.specs.CM31.{pairOf}
 use Rattle.fields.specs.QM31.{pairsOf}
 use Rattle.fields.specs.Passes.{laneUnits, m31Units, cm31Units, qm31Units}

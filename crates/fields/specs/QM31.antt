@@ -1,5 +1,5 @@
 -- What each call of QM31 answers: the refusals of document 01's table in its order, then its pair formulas, u² = 2 + i.
-use Prim.Native.Nat.{ℕ, _<_}
+use Prim.Native.Nat.{ℕ}
 use mathlib.Core.Bool.{Bool, cond, _&&_}
 use mathlib.Core.List.{List}
 use lib.Dec.{leb, eqb}

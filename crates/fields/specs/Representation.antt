@@ -108,9 +108,6 @@ module _ (W K : Ops) (H : Representation W K) where
   one-mul a h = solveWords (a ∷ []) (Expr.:1 :* v0) v0 (mul-reduced _ _) h tt
 
   -- - 1 times b is - b
-  pub sub-minus-one : (a b : W .El) → W .add a (W .neg b) ≡ W .add a (W .mul (W .neg (W .one)) b)
-  sub-minus-one a b = solveWords (a ∷ b ∷ []) (v0 :+ :- v1) (v0 :+ :- Expr.:1 :* v1) (add-reduced _ _) (add-reduced _ _) tt
-
   pub add-minus-one : (a b : W .El) → W .add a b ≡ W .add a (W .neg (W .mul (W .neg (W .one)) b))
   add-minus-one a b = solveWords (a ∷ b ∷ []) (v0 :+ v1) (v0 :+ :- (:- Expr.:1 :* v1)) (add-reduced _ _) (add-reduced _ _) tt
 

@@ -18,7 +18,7 @@ pub const P: u32 = 2147483647;
 // 2P and P^2, from which partial_reduce and reduce refuse
 const TWO_P: u32 = 4294967294;
 
-const P_SQUARED: u64 = 4611686014132420609;
+pub const P_SQUARED: u64 = 4611686014132420609;
 
 pub struct M31(pub u32);
 

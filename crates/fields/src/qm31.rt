@@ -4,17 +4,17 @@ ghost use Prim.Native.Nat.{_+_, _*_, _%_, _^_};
 ghost use Rattle.algebra.specs.M31.{P};
 ghost use Rattle.fields.specs.Words.{quarticWords};
 ghost use Rattle.fields.specs.M31.{residueOf};
-ghost use Rattle.fields.specs.QM31.{ofPairs, ofBase, fromPairsAnswer, fromArrayAnswer, toArrayAnswer, fromBaseAnswer, ofBaseAnswer, fromNumberAnswer, isZeroAnswer, addAnswer, subAnswer, negAnswer, mulAnswer, mulComplexAnswer, squareAnswer, powAnswer, inverseAnswer, divAnswer, conjugateAnswer, narrowAnswer, checkedEvals, partialEvalsAnswer, addBaseAnswer, subBaseAnswer, mulBaseAnswer, divBaseAnswer, baseSubAnswer, baseDivAnswer};
+ghost use Rattle.fields.specs.QM31.{ofPairs, ofBase, fromPairsAnswer, fromArrayAnswer, toArrayAnswer, fromBaseAnswer, ofBaseAnswer, fromNumberAnswer, isZeroAnswer, addAnswer, subAnswer, negAnswer, mulAnswer, mulComplexAnswer, squareAnswer, powAnswer, inverseAnswer, divAnswer, conjugateAnswer, narrowAnswer, checkedEvals, partialEvalsAnswer};
 use crate::answer::BoolAnswer;
 use crate::cm31::CM31;
 use crate::cm31::inner as cm31;
 use crate::m31::M31;
 use crate::m31::M31Answer;
 use crate::m31::P;
-use crate::m31::inner as m31;
 use crate::refusal::Refusal;
 
 pub mod inner;
+pub mod mixed;
 
 // the order of the field, P^4, as its high and low 64 bits
 pub const P4_HIGH: u64 = 1152921502459363329;
@@ -303,98 +303,5 @@ impl QM31 {
             return M31Answer::Refused(Refusal::Narrowing);
         }
         M31Answer::Value(M31(first.0.0))
-    }
-
-    pub fn add_m31(self, rhs: M31) -> QM31Answer
-        ensures { λ r. ⌜ r ≡ addBaseAnswer self rhs ⌝ }
-    {
-        if !inner::is_reduced(self) {
-            return QM31Answer::Refused(Refusal::Word(0));
-        }
-        if P <= rhs.0 {
-            return QM31Answer::Refused(Refusal::Word(0));
-        }
-        QM31Answer::Value(inner::add_m31(self, rhs.0))
-    }
-
-    pub fn sub_m31(self, rhs: M31) -> QM31Answer
-        ensures { λ r. ⌜ r ≡ subBaseAnswer self rhs ⌝ }
-    {
-        if !inner::is_reduced(self) {
-            return QM31Answer::Refused(Refusal::Word(0));
-        }
-        if P <= rhs.0 {
-            return QM31Answer::Refused(Refusal::Word(0));
-        }
-        QM31Answer::Value(inner::sub_m31(self, rhs.0))
-    }
-
-    pub fn mul_m31(self, rhs: M31) -> QM31Answer
-        ensures { λ r. ⌜ r ≡ mulBaseAnswer self rhs ⌝ }
-    {
-        if !inner::is_reduced(self) {
-            return QM31Answer::Refused(Refusal::Word(0));
-        }
-        if P <= rhs.0 {
-            return QM31Answer::Refused(Refusal::Word(0));
-        }
-        QM31Answer::Value(inner::mul_m31(self, rhs.0))
-    }
-
-    pub fn div_m31(self, rhs: M31) -> QM31Answer
-        ensures { λ r. ⌜ r ≡ divBaseAnswer self rhs ⌝ }
-    {
-        if !inner::is_reduced(self) {
-            return QM31Answer::Refused(Refusal::Word(0));
-        }
-        if P <= rhs.0 {
-            return QM31Answer::Refused(Refusal::Word(0));
-        }
-        if rhs.0 == 0 {
-            return QM31Answer::Refused(Refusal::Inverse(0));
-        }
-        QM31Answer::Value(inner::mul_m31(self, m31::pow2147483645(rhs.0)))
-    }
-}
-
-// M31 on the left.
-impl M31 {
-    pub fn add_qm31(self, rhs: QM31) -> QM31Answer
-        ensures { λ r. ⌜ r ≡ addBaseAnswer rhs self ⌝ }
-    {
-        rhs.add_m31(self)
-    }
-
-    pub fn sub_qm31(self, rhs: QM31) -> QM31Answer
-        ensures { λ r. ⌜ r ≡ baseSubAnswer self rhs ⌝ }
-    {
-        if P <= self.0 {
-            return QM31Answer::Refused(Refusal::Word(0));
-        }
-        if !inner::is_reduced(rhs) {
-            return QM31Answer::Refused(Refusal::Word(0));
-        }
-        QM31Answer::Value(inner::add_m31(inner::neg(rhs), self.0))
-    }
-
-    pub fn mul_qm31(self, rhs: QM31) -> QM31Answer
-        ensures { λ r. ⌜ r ≡ mulBaseAnswer rhs self ⌝ }
-    {
-        rhs.mul_m31(self)
-    }
-
-    pub fn div_qm31(self, rhs: QM31) -> QM31Answer
-        ensures { λ r. ⌜ r ≡ baseDivAnswer self rhs ⌝ }
-    {
-        if P <= self.0 {
-            return QM31Answer::Refused(Refusal::Word(0));
-        }
-        if !inner::is_reduced(rhs) {
-            return QM31Answer::Refused(Refusal::Word(0));
-        }
-        if inner::is_zero(rhs) {
-            return QM31Answer::Refused(Refusal::Inverse(0));
-        }
-        QM31Answer::Value(inner::mul_m31(inner::inverse(rhs), self.0))
     }
 }

@@ -1,7 +1,19 @@
 // Replays the recorded answers of data/ through the C entry points, and prints how many came out as recorded.
+mod batch;
+mod cm31;
 mod line;
 mod m31;
+mod qm31;
 mod row;
+mod values;
+
+// Whose functions the lines of a file name; the prefix of a name as m31_add_cm31 does not tell.
+enum Module {
+    M31,
+    CM31,
+    QM31,
+    Batch,
+}
 
 struct Tally {
     same: u64,
@@ -21,16 +33,32 @@ fn counted(t: Tally, same: bool) -> Tally {
     }
 }
 
+fn called(which: Module, name: &[u8], row: row::Row) -> row::Reply {
+    match which {
+        Module::M31 => m31::called(name, row),
+        Module::CM31 => cm31::called(name, row),
+        Module::QM31 => qm31::called(name, row),
+        Module::Batch => batch::called(name, row),
+    }
+}
+
+// Whether the line's call answers as the line says.
+fn as_recorded(which: Module, line: &[u8]) -> bool {
+    let end = line::until(line, 0, b' ');
+    let row = row::read(line, end);
+    row::answers(row, called(which, &line[..end], row))
+}
+
 // A comment says nothing; any other line is an answer.
-fn replayed(t: Tally, line: &[u8]) -> Tally {
+fn replayed(which: Module, t: Tally, line: &[u8]) -> Tally {
     if line::is_comment(line) {
         return t;
     }
-    counted(t, m31::as_recorded(line))
+    counted(t, as_recorded(which, line))
 }
 
 // The lines of a text.
-fn replayed_all(text: &[u8]) -> Tally {
+fn replayed_all(which: Module, text: &[u8]) -> Tally {
     let mut t = Tally {
         same: 0,
         different: 0,
@@ -38,7 +66,7 @@ fn replayed_all(text: &[u8]) -> Tally {
     let mut at = 0;
     while at < text.len() {
         let end = line::until(text, at, b'\n');
-        t = replayed(t, &text[at..end]);
+        t = replayed(which, t, &text[at..end]);
         at = end + 1;
     }
     t
@@ -54,7 +82,7 @@ fn report(name: &[u8], t: Tally) {
 }
 
 // A list that fills the buffer may go on: it is reported as too long, and not replayed.
-fn replay(name: &[u8]) {
+fn replay(which: Module, name: &[u8]) {
     let fd = os::open_read(name);
     if fd < 0 {
         os::fail(name);
@@ -68,9 +96,12 @@ fn replay(name: &[u8]) {
         io::write_all(1, b": too long\n");
         return;
     }
-    report(name, replayed_all(&buffer[..n]));
+    report(name, replayed_all(which, &buffer[..n]));
 }
 
 fn main() {
-    replay(b"m31.txt");
+    replay(Module::M31, b"m31.txt");
+    replay(Module::CM31, b"cm31.txt");
+    replay(Module::QM31, b"qm31.txt");
+    replay(Module::Batch, b"batch.txt");
 }

@@ -3,20 +3,23 @@ use crate::line::Number;
 use crate::line::number_of;
 use crate::line::until;
 
-// At most 16 numbers, `arguments` of them before the sign =, which stands once; bad where the line doesn't read so.
+// The most numbers of a line.
+pub const MOST: usize = 64;
+
+// At most MOST numbers, `arguments` of them before the sign =, which stands once; bad where the line doesn't read so.
 // Until the sign has come, `arguments` is NONE.
 pub struct Row {
-    pub numbers: [u64; 16],
+    pub numbers: [u64; MOST],
     pub count: usize,
     pub arguments: usize,
     pub bad: bool,
 }
 
-const NONE: usize = 17;
+const NONE: usize = MOST + 1;
 
 // The numbers that a call answered; none where there is no such call.
 pub struct Reply {
-    pub numbers: [u64; 16],
+    pub numbers: [u64; MOST],
     pub count: usize,
 }
 
@@ -36,7 +39,7 @@ fn with_number(row: Row, n: Number) -> Row {
         return bad(row);
     };
     let at = row.count;
-    if 16 <= at {
+    if MOST <= at {
         return bad(row);
     }
     let mut numbers = row.numbers;
@@ -69,7 +72,7 @@ fn with_word(row: Row, word: &[u8]) -> Row {
 // The numbers of a line from `from` on, where its name ends.
 pub fn read(line: &[u8], from: usize) -> Row {
     let mut row = Row {
-        numbers: [0; 16],
+        numbers: [0; MOST],
         count: 0,
         arguments: NONE,
         bad: false,
@@ -85,8 +88,8 @@ pub fn read(line: &[u8], from: usize) -> Row {
 }
 
 // The number at a place, 0 past the last.
-pub fn at(numbers: [u64; 16], i: usize) -> u64 {
-    if 16 <= i {
+pub fn at(numbers: [u64; MOST], i: usize) -> u64 {
+    if MOST <= i {
         return 0;
     }
     numbers[i]
@@ -100,7 +103,7 @@ pub fn answers(row: Row, reply: Reply) -> bool {
     if row.count < row.arguments {
         return false;
     }
-    if 16 < row.count {
+    if MOST < row.count {
         return false;
     }
     if reply.count == 0 {

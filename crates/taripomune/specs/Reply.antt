@@ -4,10 +4,21 @@ use mathlib.Core.Bool.{Bool, true, false}
 use Rattle.fields.specs.Refusal.{numberOf, positionOf}
 use Rattle.fields.specs.declared.m31.M31Answer.{M31Answer}
 use Rattle.fields.specs.declared.m31.M31Answer.the-variants.{Value, Refused}
+use Rattle.fields.specs.declared.cm31.CM31Answer.{CM31Answer}
+use Rattle.fields.specs.declared.cm31.CM31Answer.the-variants as C
+use Rattle.fields.specs.declared.qm31.QM31Answer.{QM31Answer}
+use Rattle.fields.specs.declared.qm31.QM31Answer.the-variants as Q
+use Rattle.fields.specs.declared.qm31.M31ArrayAnswer.{M31ArrayAnswer}
+use Rattle.fields.specs.declared.qm31.M31ArrayAnswer.the-variants as A
 use Rattle.fields.specs.declared.answer.BoolAnswer.{BoolAnswer}
 use Rattle.fields.specs.declared.answer.BoolAnswer.the-variants as B
+use Rattle.fields.specs.declared.answer.WriteAnswer.{WriteAnswer}
+use Rattle.fields.specs.declared.answer.WriteAnswer.the-variants as W
 use Rattle.taripomune.specs.declared.reply.M31Reply.{M31Reply}
 use Rattle.taripomune.specs.declared.reply.BoolReply.{BoolReply}
+use Rattle.taripomune.specs.declared.reply.CM31Reply.{CM31Reply}
+use Rattle.taripomune.specs.declared.reply.QM31Reply.{QM31Reply}
+use Rattle.taripomune.specs.declared.reply.WriteReply.{WriteReply}
 
 unfoldable pub m31Reply : M31Answer → M31Reply
 m31Reply (Value a) = record { number = 0; position = 0; value = a .0 }
@@ -20,3 +31,23 @@ yesOrNo false = 0
 unfoldable pub boolReply : BoolAnswer → BoolReply
 boolReply (B.Value b) = record { number = 0; position = 0; value = yesOrNo b }
 boolReply (B.Refused why) = record { number = numberOf why; position = positionOf why; value = 0 }
+
+-- the words of a + bi
+unfoldable pub cm31Reply : CM31Answer → CM31Reply
+cm31Reply (C.Value x) = record { number = 0; position = 0; a = x .0 .0; b = x .1 .0 }
+cm31Reply (C.Refused why) = record { number = numberOf why; position = positionOf why; a = 0; b = 0 }
+
+-- the words of (a + bi) + (c + di)u
+unfoldable pub qm31Reply : QM31Answer → QM31Reply
+qm31Reply (Q.Value x) = record { number = 0; position = 0; a = x .0 .0 .0; b = x .0 .1 .0; c = x .1 .0 .0; d = x .1 .1 .0 }
+qm31Reply (Q.Refused why) = record { number = numberOf why; position = positionOf why; a = 0; b = 0; c = 0; d = 0 }
+
+-- an array of four words crosses as an element of QM31 does
+unfoldable pub arrayReply : M31ArrayAnswer → QM31Reply
+arrayReply (A.Value a b c d) = record { number = 0; position = 0; a = a .0; b = b .0; c = c .0; d = d .0 }
+arrayReply (A.Refused why) = record { number = numberOf why; position = positionOf why; a = 0; b = 0; c = 0; d = 0 }
+
+-- the words written stand in the slice that was lent
+unfoldable pub writeReply : WriteAnswer → WriteReply
+writeReply W.Written = record { number = 0; position = 0 }
+writeReply (W.Refused why) = record { number = numberOf why; position = positionOf why }

@@ -1,3 +1,6 @@
 // The C interface: numbers and slices in, one struct of numbers out. include/taripomune.h declares it for C.
+pub mod batch;
+pub mod cm31;
 pub mod m31;
+pub mod qm31;
 pub mod reply;

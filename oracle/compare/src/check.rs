@@ -1,10 +1,11 @@
 //! Calls both sides on an input and counts.
 
-use crate::entry::{Answer, Args, Entry};
+use crate::entry::Entry;
 use crate::inputs::{combinations, draw, Input};
 use crate::kinds::first_refusal;
-use crate::library::Function;
-use crate::random::Random;
+use common::args::{Answer, Args};
+use common::library::Function;
+use common::random::Random;
 use std::panic::{catch_unwind, AssertUnwindSafe};
 use std::process::exit;
 

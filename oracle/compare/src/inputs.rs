@@ -1,7 +1,7 @@
 //! Which inputs a function is compared on.
 
 use crate::kinds::Kind;
-use crate::random::Random;
+use common::random::Random;
 
 /// The numbers of each argument.
 pub type Input = Vec<Vec<i128>>;
@@ -17,7 +17,7 @@ pub fn combinations(takes: &[Kind], random: &mut Random) -> Vec<Input> {
     let limits: Vec<_> = takes.iter().map(|kind| (kind.limits)()).collect();
     let all = limits.iter().fold(1, |all: usize, list| all.saturating_mul(list.len()));
     if all > MOST_COMBINATIONS {
-        return selection(takes, random);
+        return selection(takes, random, &|_| true);
     }
     let combination = |mut number: usize| {
         let digit = |list: &Vec<Vec<i128>>| {
@@ -30,12 +30,18 @@ pub fn combinations(takes: &[Kind], random: &mut Random) -> Vec<Input> {
     (0..all).map(combination).collect()
 }
 
-/// The limits of all arguments side by side, each limit of each argument among drawn ones, then drawn inputs.
-pub fn selection(takes: &[Kind], random: &mut Random) -> Vec<Input> {
+/// The limits of all arguments side by side, each limit of each argument among drawn ones, then drawn inputs; of these
+/// the ones that fit.
+pub fn selection(takes: &[Kind], random: &mut Random, fits: &dyn Fn(&Input) -> bool) -> Vec<Input> {
     let limits: Vec<_> = takes.iter().map(|kind| (kind.limits)()).collect();
     let longest = limits.iter().map(Vec::len).max().unwrap_or(1);
-    let mut inputs: Vec<Input> =
-        (0..longest).map(|i| limits.iter().map(|list| list[i % list.len()].clone()).collect()).collect();
+    let side_by_side = |i: usize| limits.iter().map(|list| list[i % list.len()].clone()).collect();
+    let mut inputs: Vec<Input> = (0..longest).map(side_by_side).filter(fits).collect();
+    let keep = |inputs: &mut Vec<Input>, input| {
+        if fits(&input) && !inputs.contains(&input) {
+            inputs.push(input);
+        }
+    };
     for (argument, list) in limits.iter().enumerate() {
         for limit in list {
             let mut input = draw(takes, random);
@@ -51,12 +57,6 @@ pub fn selection(takes: &[Kind], random: &mut Random) -> Vec<Input> {
         }
     }
     inputs
-}
-
-fn keep(inputs: &mut Vec<Input>, input: Input) {
-    if !inputs.contains(&input) {
-        inputs.push(input);
-    }
 }
 
 /// An input that is good every other time, and anything otherwise.

@@ -1,9 +1,9 @@
 //! Kinds of argument. A kind knows the limits of its range, draws good and damaged numbers, and knows document 01's
 //! refusal of them. A kind may be several numbers: a condition on two arguments together is a kind of both.
 
-use crate::random::Random;
+use common::random::Random;
 
-const P: i128 = 2147483647;
+pub const P: i128 = 2147483647;
 
 pub struct Kind {
     /// The numbers about the ends of the range, good ones and damaged ones.
@@ -27,7 +27,7 @@ pub fn first_refusal(takes: &[Kind], input: &[Vec<i128>]) -> Option<Refusal> {
     refusals.min_by_key(|refusal| ROWS.iter().position(|number| *number == refusal.number))
 }
 
-fn refused_if(condition: bool, number: u32) -> Option<Refusal> {
+pub fn refused_if(condition: bool, number: u32) -> Option<Refusal> {
     condition.then_some(Refusal { number, position: 0 })
 }
 
@@ -50,6 +50,70 @@ pub const WORD: Kind = Kind {
 /// The word of an element that is inverted.
 pub const DIVISOR: Kind =
     Kind { refusal: |numbers| (WORD.refusal)(numbers).or(refused_if(numbers[0] == 0, 3)), ..WORD };
+
+/// The words of an element of so many words.
+const fn element<const WIDTH: usize>() -> Kind {
+    Kind {
+        limits: || element_limits(WIDTH),
+        draw: |random| {
+            let sparse = random.one_in(4);
+            let word = |_| if sparse && random.one_in(2) { 0 } else { (WORD.draw)(random)[0] };
+            (0..WIDTH).map(word).collect()
+        },
+        refusal: |words| refused_if(words.iter().any(|word| *word >= P), 1),
+    }
+}
+
+/// At each place a 1, a P - 1 and a P among zeros or others, and elements of equal or simple words.
+fn element_limits(width: usize) -> Vec<Vec<i128>> {
+    let mut limits: Vec<Vec<i128>> = [0, P - 1, (1 << 32) - 1].map(|word| vec![word; width]).to_vec();
+    for place in 0..width {
+        for (word, others) in [(1, 0), (P - 1, 0), (P, 1)] {
+            limits.push((0..width).map(|k| if k == place { word } else { others }).collect());
+        }
+    }
+    limits.push((0..width).map(|k| 2 - k as i128 % 2).collect());
+    limits
+}
+
+/// An element that is inverted.
+const fn divisor<const WIDTH: usize>() -> Kind {
+    Kind {
+        refusal: |words| {
+            let zero = words.iter().all(|word| *word == 0);
+            (element::<WIDTH>().refusal)(words).or(refused_if(zero, 3))
+        },
+        ..element::<WIDTH>()
+    }
+}
+
+/// An element that is narrowed to its first word.
+const fn narrowed<const WIDTH: usize>() -> Kind {
+    Kind {
+        draw: |random| {
+            let mut words = (element::<WIDTH>().draw)(random);
+            if random.one_in(2) {
+                words[1..].fill(0);
+            }
+            words
+        },
+        refusal: |words| {
+            let wide = words[1..].iter().any(|word| *word != 0);
+            (element::<WIDTH>().refusal)(words).or(refused_if(wide, 12))
+        },
+        ..element::<WIDTH>()
+    }
+}
+
+/// A CM31.
+pub const PAIR: Kind = element::<2>();
+pub const PAIR_DIVISOR: Kind = divisor::<2>();
+pub const PAIR_NARROWED: Kind = narrowed::<2>();
+
+/// A QM31.
+pub const QUAD: Kind = element::<4>();
+pub const QUAD_DIVISOR: Kind = divisor::<4>();
+pub const QUAD_NARROWED: Kind = narrowed::<4>();
 
 pub const ANY_U32: Kind =
     Kind { limits: || each(&LIMITS_32), draw: |random| vec![random.up_to_bits(32).into()], refusal: |_| None };
@@ -119,6 +183,17 @@ pub const EXPONENT: Kind = Kind {
     limits: || EXPONENTS.map(high_and_low).to_vec(),
     draw: |random| vec![random.up_to_bits(64).into(), random.u64().into()],
     refusal: |_| None,
+};
+
+const P_2: u128 = (P * P) as u128;
+
+/// 128 bits as two words, the orders of CM31 and QM31 among the limits.
+pub const EXTENSION_EXPONENT: Kind = Kind {
+    limits: || {
+        let orders = [P_2 - 2, P_2 - 1, P_2, P_2 * P_2 - 2, P_2 * P_2 - 1, P_2 * P_2];
+        [&EXPONENTS[..], &orders].concat().into_iter().map(high_and_low).collect()
+    },
+    ..EXPONENT
 };
 
 /// How often `sqn` squares.

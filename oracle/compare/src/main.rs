@@ -1,23 +1,34 @@
 //! Compares every function of the library's C interface with the Rust of stwo.
 
+mod batch;
 mod check;
+mod cm31;
+mod columns;
 mod entry;
 mod inputs;
 mod kinds;
-mod library;
 mod m31;
-mod random;
+mod qm31;
 mod record;
 
 use check::{check, Tally};
+use common::library::{Function, FUNCTIONS};
 use entry::Entry;
-use library::{Function, FUNCTIONS};
 use std::fs;
 use std::path::{Path, PathBuf};
 use std::process::ExitCode;
 
-/// The entries, by the file that each module's answers are recorded in.
-const MODULES: &[(&str, &[Entry])] = &[("m31", m31::ENTRIES)];
+/// The entries, by the file that each module's answers are recorded in, and about how many bytes of each function's
+/// answers are recorded at most.
+const MODULES: &[(&str, &[Entry], usize)] = &[
+    ("m31", m31::ENTRIES, 3_000),
+    ("cm31", cm31::ENTRIES, 3_000),
+    ("qm31", qm31::ENTRIES, 1_900),
+    ("batch", batch::ENTRIES, 12_000),
+];
+
+/// `replay` reads shorter files only.
+const MOST_BYTES: usize = 65_536;
 
 const USAGE: &str = "compare [--seed NUMBER] [--count INPUTS_A_FUNCTION] [--record FOLDER]";
 
@@ -57,7 +68,7 @@ fn run(options: Options) -> Result<(), String> {
     check_names()?;
     let mut total = Tally::default();
     println!("{:<32}{:>10}{:>10}{:>10}", "function", "compared", "refused", "different");
-    for entry in MODULES.iter().flat_map(|(_, entries)| *entries) {
+    for entry in MODULES.iter().flat_map(|(_, entries, _)| *entries) {
         let tally = check(entry, function(entry)?, options.seed, options.count);
         print(entry.name, &tally);
         total.compared += tally.compared;
@@ -78,7 +89,7 @@ fn print(name: &str, tally: &Tally) {
 /// Every function of the header has one entry.
 fn check_names() -> Result<(), String> {
     for Function { name, .. } in FUNCTIONS {
-        let entries = MODULES.iter().flat_map(|(_, entries)| *entries);
+        let entries = MODULES.iter().flat_map(|(_, entries, _)| *entries);
         match entries.filter(|entry| entry.name == *name).count() {
             1 => {}
             count => return Err(format!("tari_{name} of the header has {count} entries")),
@@ -93,12 +104,16 @@ fn function(entry: &Entry) -> Result<&'static Function, String> {
 }
 
 fn record_all(folder: &Path, seed: u64) -> Result<(), String> {
-    for (module, entries) in MODULES {
-        let mut text = record::header(module, seed);
-        for entry in *entries {
-            text += &record::lines(entry, function(entry)?, seed)?;
+    for (module, entries, share) in MODULES {
+        let functions = entries.iter().map(function).collect::<Result<Vec<_>, _>>()?;
+        let mut text = record::header(module, functions.iter().any(|function| function.slices), seed);
+        for (entry, function) in entries.iter().zip(functions) {
+            text += &record::lines(entry, function, seed, *share)?;
         }
         let file = folder.join(module).with_extension("txt");
+        if text.len() >= MOST_BYTES {
+            return Err(format!("{} would be {} bytes, too many", file.display(), text.len()));
+        }
         fs::write(&file, text).map_err(|error| format!("{}: {error}", file.display()))?;
     }
     Ok(())

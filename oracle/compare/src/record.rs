@@ -1,36 +1,63 @@
 //! The fixed list of answers of a module, as text.
 
-use crate::check::answers;
+use crate::check::{answers, Pair};
 use crate::entry::Entry;
-use crate::inputs::selection;
-use crate::library::Function;
-use crate::random::Random;
+use crate::inputs::{selection, Input};
+use common::library::Function;
+use common::random::Random;
+
+/// `replay` reads lines of at most so many numbers.
+const MOST_NUMBERS: usize = 64;
 
 /// What the list is and how it was made.
-pub fn header(module: &str, seed: u64) -> String {
-    format!(
+pub fn header(module: &str, slices: bool, seed: u64) -> String {
+    let text = format!(
         "# Answers of the functions with C linkage: {module}.\n\
          # Recorded by `oracle/` with seed {seed}, beside the Rust of starkware-libs/stwo, commit 826591c6c3.\n\
          # Accepted inputs have the Rust's answer, refused ones the refusal that document 01 demands.\n\
          # Each line is NAME ARG .. ARG = NUMBER POSITION VALUE .. VALUE, the name without `tari_`, in decimal.\n\
          # NUMBER and POSITION are 0 0 or the refusal. A 128-bit number is two arguments, high and low.\n"
-    )
+    );
+    let slice =
+        "# A slice is its length and then its words; a destination's words, as the call leaves them, are values.\n";
+    text + if slices { slice } else { "" }
 }
 
-/// The lines of a function; an error where the library doesn't answer as it should.
-pub fn lines(entry: &Entry, function: &Function, seed: u64) -> Result<String, String> {
-    let mut text = String::new();
-    for input in selection(entry.takes, &mut Random::new(seed, entry.name)) {
+/// The lines of a function, about `share` bytes at most; an error where the library doesn't answer as it should.
+pub fn lines(entry: &Entry, function: &Function, seed: u64, share: usize) -> Result<String, String> {
+    let short = |input: &Input| {
+        let pair = answers(entry, function, input);
+        pair.numbers.len() + 2 + pair.expected.values.len() <= MOST_NUMBERS
+    };
+    let mut lines = Vec::new();
+    for input in selection(entry.takes, &mut Random::new(seed, entry.name), &short) {
         let pair = answers(entry, function, &input);
         if pair.library != pair.expected {
             return Err(format!("{} differs on {:?}", entry.name, pair.numbers));
         }
-        let answer = pair.expected;
-        let mut words = vec![entry.name.to_string()];
-        words.extend(pair.numbers.iter().map(i128::to_string));
-        words.extend(["=".to_string(), answer.number.to_string(), answer.position.to_string()]);
-        words.extend(answer.values.iter().map(u64::to_string));
-        text += &(words.join(" ") + "\n");
+        lines.push(line(entry.name, &pair));
     }
-    Ok(text)
+    Ok(evenly(&lines, share))
+}
+
+fn line(name: &str, Pair { numbers, expected, .. }: &Pair) -> String {
+    let mut words = vec![name.to_string()];
+    words.extend(numbers.iter().map(i128::to_string));
+    words.extend(["=".to_string(), expected.number.to_string(), expected.position.to_string()]);
+    words.extend(expected.values.iter().map(u64::to_string));
+    words.join(" ") + "\n"
+}
+
+/// All lines, or where these have more than `most` bytes an even choice of them, the first among it.
+fn evenly(lines: &[String], most: usize) -> String {
+    let all: usize = lines.iter().map(String::len).sum();
+    let mut text = String::new();
+    let mut seen = 0;
+    for line in lines {
+        seen += line.len();
+        if text.len() * all < seen * most {
+            text += line;
+        }
+    }
+    text
 }

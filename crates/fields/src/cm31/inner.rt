@@ -11,6 +11,7 @@ ghost use Rattle.fields.specs.CM31.{pairOf, Reduced, reduced, isZero};
 use crate::cm31::CM31;
 use crate::m31::M31;
 use crate::m31::P;
+use crate::m31::P_SQUARED;
 use crate::m31::inner as m31;
 
 pub mod batch;
@@ -59,11 +60,13 @@ pub fn mul(a: CM31, b: CM31) -> CM31
     requires { ⌜ (Reduced a) × (Reduced b) ⌝ }
     ensures { λ r. ⌜ (pairOf r ≡ complexWords .mul (pairOf a) (pairOf b)) × Reduced r ⌝ }
 {
-    let ac = m31::mul(a.0.0, b.0.0);
-    let bd = m31::mul(a.1.0, b.1.0);
-    let ad = m31::mul(a.0.0, b.1.0);
-    let bc = m31::mul(a.1.0, b.0.0);
-    CM31(M31(m31::sub(ac, bd)), M31(m31::add(ad, bc)))
+    let ac = m31::product(a.0.0, b.0.0);
+    let bd = m31::product(a.1.0, b.1.0);
+    let ad = m31::product(a.0.0, b.1.0);
+    let bc = m31::product(a.1.0, b.0.0);
+    let re = m31::reduce_wide(ac + (P_SQUARED - bd));
+    let im = m31::reduce_wide(ad + bc);
+    CM31(M31(re), M31(im))
 }
 
 // (2 + i)(a + bi) = (2a - b) + (a + 2b)i

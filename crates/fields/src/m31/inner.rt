@@ -57,8 +57,25 @@ pub fn mul(a: u32, b: u32) -> u32
     requires { ⌜ (a < P) × (b < P) ⌝ }
     ensures { λ r. ⌜ r ≡ mulP a b ⌝ }
 {
-    let product = (a as u64) * (b as u64);
-    reduce(product)
+    reduce(product(a, b))
+}
+
+// The product before its reduction, for sums of products that are reduced once.
+pub fn product(a: u32, b: u32) -> u64
+    requires { ⌜ (a < P) × (b < P) ⌝ }
+    ensures { λ r. ⌜ (r ≡ a * b) × (r < P * P) ⌝ }
+{
+    (a as u64) * (b as u64)
+}
+
+// Any number: the bits from 31 on are added to those below, twice.
+pub fn reduce_wide(val: u64) -> u32
+    ensures { λ r. ⌜ r ≡ val % P ⌝ }
+{
+    let once = val % TWO_POW_31_U64 + val / TWO_POW_31_U64;
+    let low = (once % TWO_POW_31_U64) as u32;
+    let high = (once / TWO_POW_31_U64) as u32;
+    partial_reduce(low + high)
 }
 
 // the exponent high 2^64 + low is not 0

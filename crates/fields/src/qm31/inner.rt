@@ -5,17 +5,23 @@ ghost use Rattle.algebra.specs.M31.{P};
 ghost use Rattle.algebra.specs.Ring.{sub};
 ghost use Rattle.algebra.specs.Power.{pow};
 ghost use Rattle.algebra.specs.Extension.{conjugate, embed};
-ghost use Rattle.fields.specs.Words.{complexWords, quarticWords, quarticInverse};
+ghost use Rattle.algebra.specs.Tower.{twoPlusI};
+ghost use Rattle.fields.specs.Words.{words31, complexWords, quarticWords, quarticInverse};
 ghost use Rattle.fields.specs.CM31.{pairOf};
 ghost use Rattle.fields.specs.CM31 as C;
 ghost use Rattle.fields.specs.QM31.{pairsOf, ofBase, partialEvals, Reduced, reduced, isZero};
 use crate::cm31::CM31;
 use crate::cm31::inner as cm31;
 use crate::m31::M31;
+use crate::m31::P_SQUARED;
 use crate::m31::inner as m31;
 use crate::qm31::QM31;
 
 pub mod batch;
+
+const P_U64: u64 = 2147483647;
+
+const TWO_P_SQUARED: u64 = 9223372028264841218;
 
 pub fn is_reduced(a: QM31) -> bool
     ensures { λ r. ⌜ r ≡ reduced a ⌝ }
@@ -70,7 +76,7 @@ pub fn neg(a: QM31) -> QM31
     QM31(cm31::neg(a0), cm31::neg(a1))
 }
 
-// (a + bu)(c + du) = (ac + (2 + i)bd) + (ad + bc)u
+// (a + bu)(c + du) = (ac + (2 + i)bd) + (ad + bc)u, its sums of products each reduced once.
 pub fn mul(a: QM31, b: QM31) -> QM31
     requires { ⌜ (Reduced a) × (Reduced b) ⌝ }
     ensures { λ r. ⌜ (pairsOf r ≡ quarticWords .mul (pairsOf a) (pairsOf b)) × Reduced r ⌝ }
@@ -79,12 +85,38 @@ pub fn mul(a: QM31, b: QM31) -> QM31
     let a1 = a.1;
     let b0 = b.0;
     let b1 = b.1;
-    let ac = cm31::mul(a0, b0);
-    let bd = cm31::mul(a1, b1);
-    let ad = cm31::mul(a0, b1);
-    let bc = cm31::mul(a1, b0);
-    let rest = cm31::mul_two_plus_i(bd);
-    QM31(cm31::add(ac, rest), cm31::add(ad, bc))
+    QM31(mul_first(a0, a1, b0, b1), mul_second(a0, a1, b0, b1))
+}
+
+// ac + (2 + i)bd
+fn mul_first(a: CM31, b: CM31, c: CM31, d: CM31) -> CM31
+    requires { ⌜ (C.Reduced a) × (C.Reduced b) × (C.Reduced c) × (C.Reduced d) ⌝ }
+    ensures { λ r. ⌜ (pairOf r ≡ complexWords .add (complexWords .mul (pairOf a) (pairOf c)) (complexWords .mul (twoPlusI words31) (complexWords .mul (pairOf b) (pairOf d)))) × C.Reduced r ⌝ }
+{
+    let bd = cm31::mul(b, d);
+    let plus = m31::product(a.0.0, c.0.0);
+    let minus = m31::product(a.1.0, c.1.0);
+    let left = m31::product(a.0.0, c.1.0);
+    let right = m31::product(a.1.0, c.0.0);
+    let bd_re = bd.0.0 as u64;
+    let bd_im = bd.1.0 as u64;
+    let re = m31::reduce_wide(plus + (P_SQUARED - minus) + 2 * bd_re + (P_U64 - bd_im));
+    let im = m31::reduce_wide(left + right + bd_re + 2 * bd_im);
+    CM31(M31(re), M31(im))
+}
+
+// ad + bc
+fn mul_second(a: CM31, b: CM31, c: CM31, d: CM31) -> CM31
+    requires { ⌜ (C.Reduced a) × (C.Reduced b) × (C.Reduced c) × (C.Reduced d) ⌝ }
+    ensures { λ r. ⌜ (pairOf r ≡ complexWords .add (complexWords .mul (pairOf a) (pairOf d)) (complexWords .mul (pairOf b) (pairOf c))) × C.Reduced r ⌝ }
+{
+    let plus = m31::product(a.0.0, d.0.0) + m31::product(b.0.0, c.0.0);
+    let minus = m31::product(a.1.0, d.1.0) + m31::product(b.1.0, c.1.0);
+    let left = m31::product(a.0.0, d.1.0) + m31::product(a.1.0, d.0.0);
+    let right = m31::product(b.0.0, c.1.0) + m31::product(b.1.0, c.0.0);
+    let re = m31::reduce_wide(plus + (TWO_P_SQUARED - minus));
+    let im = m31::reduce_wide(left + right);
+    CM31(M31(re), M31(im))
 }
 
 pub fn mul_cm31(a: QM31, b: CM31) -> QM31

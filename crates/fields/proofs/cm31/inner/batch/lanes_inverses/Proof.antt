@@ -1,20 +1,16 @@
-use Prim.Native.Nat.{ℕ, _+_, _-_, _/_, _<_}
-use mathlib.Core.Path.{_≡_, sym, _∙_, ap}
+use Prim.Native.Nat.{_/_}
+use mathlib.Core.Path.{sym, _∙_}
 use native.Mathlib.Omega.{arith}
-use native.Mathlib.Nat as N
 use lib.ListN.{length}
 use borrow.Author.Needs.{needs}
-use Rattle.fields.specs.Passes.{Holds, product, inverses, cm31Units, laneUnits}
+use Rattle.fields.specs.Passes.{cm31Units, laneUnits}
 use Rattle.fields.specs.Lanes.{cm31Lanes}
-use Rattle.fields.proofs.Montgomery.{same-unit, product-unit, inverse-at, rest-below, length-after, holds-down, holds-below, holds-none, holds-part}
+use Rattle.fields.proofs.Montgomery.{Down, down-start, down-unit, last-unit, down-next, down-end, same-unit}
 use Rattle.fields.proofs.cm31.inner.batch.lanes_inverses.Statement.{statement}
 use Rattle.fields.proofs.cm31.inner.batch.lanes_inverses.Tie as tie
 
--- the elements below k are still the products, those above it inverses, and rest is the inverse of the product up to k
 abbrev Inv-loop : tie.InvT-loop
-Inv-loop column dst₀ rest₀ k₀ dst rest k =
-    (k < length column / 8) × (length dst ≡ length column) × ((cm31Lanes rest) ≡ (laneUnits cm31Units) .inverse (product (laneUnits cm31Units) column k))
-    × (Holds (laneUnits cm31Units) (product (laneUnits cm31Units) column) 0 k dst) × Holds (laneUnits cm31Units) (inverses (laneUnits cm31Units) column) (k + 1) (length column / 8) dst
+Inv-loop column dst₀ rest₀ k₀ dst rest k = Down (laneUnits cm31Units) column dst (length column / 8) k (cm31Lanes rest)
 
 abbrev μ-loop : tie.MeasureT-loop
 μ-loop column dst₀ rest₀ k₀ dst rest k = k
@@ -23,53 +19,36 @@ sub-k : tie.Need-sub-k Inv-loop μ-loop
 sub-k c = omega (arith, c .before .before .pre .0 .whole)
 
 loop-holds : tie.Need-loop-holds Inv-loop μ-loop
-loop-holds c =
-    let pre = c .before .before .pre in
-    let column = c .before .before .args .column .now in
-    let dst = c .before .before .args .dst .now in (
-      omega (arith, pre .0 .whole),
-      pre .1,
-      pre .4,
-      holds-part (laneUnits cm31Units) (product (laneUnits cm31Units) column) dst 0 0 (length column / 8) (length column / 8 - 1) (omega arith) (omega arith) (pre .3),
-      holds-none (laneUnits cm31Units) (inverses (laneUnits cm31Units) column) dst (length column / 8 - 1 + 1) (length column / 8) (omega arith),
-    )
+loop-holds c = down-start (laneUnits cm31Units) _ _ (c .before .before .pre .0) _ _ (omega (arith, c .before .before .pre .0 .whole)) (c .before .before .pre .1) (c .before .before .pre .3) (c .before .before .pre .4)
 
 mul-lanes-load : tie.Need-mul-lanes-load Inv-loop μ-loop
-mul-lanes-load c = omega (arith, c .before .before .before .before .pre .0 .whole, c .before .before .before .before .good, c .before .loop .inv .0)
+mul-lanes-load c = omega (arith, c .before .before .before .before .pre .0 .whole, c .before .before .before .before .good, c .before .loop .inv .low)
 
 lanes-load-requires : tie.Need-lanes-load-requires Inv-loop μ-loop
-lanes-load-requires c κs = omega (arith, c .before .before .before .before .pre .0 .whole)
+lanes-load-requires c κs = omega (arith, c .before .before .before .before .pre .0 .whole, c .before .loop .inv .low)
 
 sub-lanes-load : tie.Need-sub-lanes-load Inv-loop μ-loop
 sub-lanes-load c = search needs
 
 mul-lanes-load-2 : tie.Need-mul-lanes-load-2 Inv-loop μ-loop
-mul-lanes-load-2 c = omega (arith, c .before .before .before .before .before .before .pre .0 .whole, c .before .before .before .before .before .before .good, c .before .before .before .loop .inv .0)
+mul-lanes-load-2 c = omega (arith, c .before .before .before .before .before .before .pre .0 .whole, c .before .before .before .before .before .before .good, c .before .before .before .loop .inv .low)
 
 lanes-load-requires-2 : tie.Need-lanes-load-requires-2 Inv-loop μ-loop
-lanes-load-requires-2 c κs = omega (arith, c .before .before .before .before .before .before .pre .0 .whole, c .before .before .before .loop .inv .1)
+lanes-load-requires-2 c κs = omega (arith, c .before .before .before .before .before .before .pre .0 .whole, c .before .before .before .loop .inv .long, c .before .before .before .loop .inv .low)
 
 mul-lanes-store : tie.Need-mul-lanes-store Inv-loop μ-loop
-mul-lanes-store c = omega (arith, c .before .before .before .before .before .before .before .before .pre .0 .whole, c .before .before .before .before .before .before .before .before .good, c .before .before .before .before .before .loop .inv .0)
+mul-lanes-store c = omega (arith, c .before .before .before .before .before .before .before .before .pre .0 .whole, c .before .before .before .before .before .before .before .before .good, c .before .before .before .before .before .loop .inv .low)
 
 lanes-mul-requires : tie.Need-lanes-mul-requires Inv-loop μ-loop
-lanes-mul-requires c κs =
-    let at = c .before .before .before .before .before .loop in
-    let column = c .before .before .before .before .before .before .before .before .pre .0 in (
-      same-unit (laneUnits cm31Units) _ _ (c .before .lanes-load2 .ensures ∙ at .inv .3 .holds (at .k - 1) (omega arith) (omega arith)) (product-unit (laneUnits cm31Units) _ _ (at .k - 1) column (omega arith)),
-      same-unit (laneUnits cm31Units) _ _ (at .inv .2) ((laneUnits cm31Units) .inverse-unit _ (product-unit (laneUnits cm31Units) _ _ (at .k) column (at .inv .0))),
-    )
+lanes-mul-requires c κs = (last-unit (laneUnits cm31Units) _ _ (c .before .before .before .before .before .before .before .before .pre .0) _ _ _ _ (c .before .before .before .before .before .loop .inv) (c .before .before .before .before .loop-test .taken) (c .before .lanes-load2 .ensures), down-unit (laneUnits cm31Units) _ _ (c .before .before .before .before .before .before .before .before .pre .0) _ _ _ (c .before .before .before .before .before .loop .inv))
 
 lanes-store-requires : tie.Need-lanes-store-requires Inv-loop μ-loop
-lanes-store-requires c κs = omega (arith, c .before .before .before .before .before .before .before .before .before .pre .0 .whole, c .before .before .before .before .before .before .loop .inv .1)
+lanes-store-requires c κs = omega (arith, c .before .before .before .before .before .before .before .before .before .pre .0 .whole, c .before .before .before .before .before .before .loop .inv .long, c .before .before .before .before .before .before .loop .inv .low)
 
 lanes-mul-requires-2 : tie.Need-lanes-mul-requires-2 Inv-loop μ-loop
 lanes-mul-requires-2 c κs =
     let at = c .before .before .before .before .before .before .before .before .before .loop in
-    let column = c .before .before .before .before .before .before .before .before .before .before .before .before .pre .0 in (
-      same-unit (laneUnits cm31Units) _ _ (at .inv .2) ((laneUnits cm31Units) .inverse-unit _ (product-unit (laneUnits cm31Units) _ _ (at .k) column (at .inv .0))),
-      same-unit (laneUnits cm31Units) _ _ (c .before .before .before .before .before .before .before .lanes-load .ensures) (column .units (at .k) (at .inv .0)),
-    )
+    (down-unit (laneUnits cm31Units) _ _ (c .before .before .before .before .before .before .before .before .before .before .before .before .pre .0) _ _ _ (at .inv), same-unit (laneUnits cm31Units) _ _ (c .before .before .before .before .before .before .before .lanes-load .ensures) (c .before .before .before .before .before .before .before .before .before .before .before .before .pre .0 .units (at .k) (at .inv .low)))
 
 sub-k-2 : tie.Need-sub-k-2 Inv-loop μ-loop
 sub-k-2 c = omega (arith, c .before .before .before .before .before .before .before .before .before .loop-test .taken)
@@ -79,42 +58,17 @@ loop-less c = omega (arith, c .before .before .before .before .before .before .b
 
 loop-again : tie.Need-loop-again Inv-loop μ-loop
 loop-again c =
-    let at = c .before .before .before .before .before .before .before .before .before .before .loop in
-    let column = c .before .before .before .before .before .before .before .before .before .before .before .before .before .args .column .now in
-    let pre = c .before .before .before .before .before .before .before .before .before .before .before .before .before .pre in
-    let n : ℕ = length column / 8 in
-    let above : 0 < at .k = c .before .before .before .before .before .before .before .before .before .loop-test .taken in
-    let x = (cm31Lanes (c .before .before .before .before .lanes-mul .result)) in
-    let wrote = c .before .before .before .lanes-store .ensures in
-    let e : x ≡ inverses (laneUnits cm31Units) column (at .k) =
-    c .before .before .before .before .lanes-mul .ensures ∙ inverse-at (laneUnits cm31Units) column n (pre .0) (at .k) (cm31Lanes (c .before .before .before .before .before .before .lanes-load2 .result)) (cm31Lanes (at .rest)) above (at .inv .0)
-    (c .before .before .before .before .before .before .lanes-load2 .ensures ∙ at .inv .3 .holds (at .k - 1) (omega arith) (omega arith)) (at .inv .2) in (
-      omega arith,
-      length-after (laneUnits cm31Units) (inverses (laneUnits cm31Units) column) (at .dst) (at .k) x _ wrote ∙ at .inv .1,
-      c .lanes-mul2 .ensures ∙ rest-below (laneUnits cm31Units) column n (pre .0) (at .k) (cm31Lanes (at .rest)) (cm31Lanes (c .before .before .before .before .before .before .before .before .lanes-load .result)) above (at .inv .0) (at .inv .2) (c .before .before .before .before .before .before .before .before .lanes-load .ensures),
-      holds-below (laneUnits cm31Units) (product (laneUnits cm31Units) column) (at .dst) (at .k) x _ wrote (at .k - 1) (omega arith) (at .inv .3),
-      holds-part (laneUnits cm31Units) (inverses (laneUnits cm31Units) column) _ (at .k) (at .k - 1 + 1) n n (omega arith) (omega arith)
-          (holds-down (laneUnits cm31Units) (inverses (laneUnits cm31Units) column) (at .dst) (at .k) x _ wrote n (at .inv .4) (omega (arith, pre .0 .whole, at .inv .1)) e),
-    )
+    down-next (laneUnits cm31Units) _ _ (c .before .before .before .before .before .before .before .before .before .before .before .before .before .pre .0) (c .before .before .before .before .before .before .before .before .before .before .loop .dst) _ (c .before .before .before .before .before .before .before .before .before .before .loop .k) _ _ _ _ _ (c .before .before .before .before .before .before .before .before .before .before .loop .inv) (c .before .before .before .before .before .before .before .before .before .loop-test .taken)
+    (c .before .before .before .before .before .before .before .before .lanes-load .ensures) (c .before .before .before .before .before .before .lanes-load2 .ensures) (c .before .before .before .before .lanes-mul .ensures) (c .lanes-mul2 .ensures) (c .before .before .before .lanes-store .ensures)
 
 lanes-store-requires-2 : tie.Need-lanes-store-requires-2 Inv-loop μ-loop
-lanes-store-requires-2 c κs = omega (arith, c .before .before .before .before .before .pre .0 .whole, c .before .before .loop .inv .1)
+lanes-store-requires-2 c κs = omega (arith, c .before .before .before .before .before .pre .0 .whole, c .before .before .loop .inv .long, c .before .before .loop .inv .low)
 
 same-length : tie.Need-same-length Inv-loop μ-loop
-same-length c = length-after (laneUnits cm31Units) (inverses (laneUnits cm31Units) (c .before .before .before .before .before .before .before .before .args .column .now)) (c .before .before .before .before .before .loop .dst) 0 (cm31Lanes (c .before .before .before .before .before .loop .rest)) _ (c .before .before .lanes-store2 .ensures) ∙ c .before .before .before .before .before .loop .inv .1 ∙ sym (c .before .before .before .before .before .before .before .before .pre .1)
+same-length c = down-end (laneUnits cm31Units) _ _ (c .before .before .before .before .before .before .before .before .pre .0) (c .before .before .before .before .before .loop .dst) _ (c .before .before .before .before .before .loop .k) _ (c .before .before .before .before .before .loop .inv) (omega (arith, c .before .before .before .before .loop-test .left)) (c .before .before .lanes-store2 .ensures) .0 ∙ sym (c .before .before .before .before .before .before .before .before .pre .1)
 
 returns : tie.Need-returns Inv-loop μ-loop
-unfolding product
-returns c =
-    let at = c .before .before .before .before .before .loop in
-    let column = c .before .before .before .before .before .before .before .before .args .column .now in
-    let pre = c .before .before .before .before .before .before .before .before .pre in
-    let n : ℕ = length column / 8 in
-    let none : at .k ≡ 0 = omega arith in
-    holds-down (laneUnits cm31Units) (inverses (laneUnits cm31Units) column) (at .dst) 0 (cm31Lanes (at .rest)) _ (c .before .before .lanes-store2 .ensures) n
-    (holds-part (laneUnits cm31Units) (inverses (laneUnits cm31Units) column) (at .dst) (at .k + 1) 1 n n (omega arith) (omega arith) (at .inv .4))
-    (omega (arith, pre .0 .whole, at .inv .1))
-    (at .inv .2 ∙ ap (λ (j : ℕ). (laneUnits cm31Units) .inverse (product (laneUnits cm31Units) column j)) none)
+returns c = down-end (laneUnits cm31Units) _ _ (c .before .before .before .before .before .before .before .before .pre .0) (c .before .before .before .before .before .loop .dst) _ (c .before .before .before .before .before .loop .k) _ (c .before .before .before .before .before .loop .inv) (omega (arith, c .before .before .before .before .loop-test .left)) (c .before .before .lanes-store2 .ensures) .1
 
 pub lanes-inverses-spec : {M : Type 1} → statement M
 lanes-inverses-spec = tie.close (tie.spec Inv-loop μ-loop sub-k loop-holds mul-lanes-load lanes-load-requires sub-lanes-load mul-lanes-load-2 lanes-load-requires-2 mul-lanes-store lanes-mul-requires lanes-store-requires lanes-mul-requires-2 sub-k-2 loop-less loop-again lanes-store-requires-2 same-length returns)

@@ -1,5 +1,4 @@
 use mathlib.Core.Path.{_∙_, ap}
-use native.Mathlib.Nat as N
 use borrow.Author.Needs.{needs}
 use Rattle.fields.specs.Passes.{m31Units}
 use Rattle.fields.proofs.Pairs.{four}

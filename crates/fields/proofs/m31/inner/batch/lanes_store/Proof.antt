@@ -1,4 +1,3 @@
-use native.Mathlib.Nat as N
 use borrow.Author.Needs.{needs}
 use Rattle.fields.specs.Layouts.{four-writes}
 use Rattle.fields.specs.Passes.{m31Units}

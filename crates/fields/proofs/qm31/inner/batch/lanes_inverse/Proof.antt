@@ -1,5 +1,4 @@
 use mathlib.Core.Path.{_∙_, ap}
-use native.Mathlib.Nat as N
 use Rattle.fields.specs.Passes.{qm31Units}
 use Rattle.fields.specs.QM31.{pairsOf}
 use Rattle.fields.proofs.Pairs.{four}

@@ -1,4 +1,3 @@
-use native.Mathlib.Nat as N
 use borrow.Author.Needs.{needs}
 use Rattle.fields.proofs.Pairs.{four}
 use Rattle.fields.proofs.qm31.inner.batch.lanes_load.Statement.{statement}

@@ -1,19 +1,15 @@
-use Prim.Native.Nat.{ℕ, _+_, _-_, _/_, _≤_, _<_}
-use mathlib.Core.Path.{_≡_, refl, sym, _∙_, ap}
+use Prim.Native.Nat.{_-_, _/_, _<_}
+use mathlib.Core.Path.{_≡_, refl, sym, _∙_}
 use native.Mathlib.Omega.{arith}
-use native.Mathlib.Nat as N
 use lib.ListN.{length}
-use Rattle.fields.specs.Passes.{Holds, product, qm31Units}
+use Rattle.fields.specs.Passes.{qm31Units}
 use Rattle.fields.specs.QM31.{pairsOf}
-use Rattle.fields.proofs.Montgomery.{same-unit, product-unit, next-product, length-after, holds-next, holds-none, holds-part}
+use Rattle.fields.proofs.Montgomery.{Up, up-start, up-unit, up-next, up-end, same-unit}
 use Rattle.fields.proofs.qm31.inner.batch.products.Statement.{statement}
 use Rattle.fields.proofs.qm31.inner.batch.products.Tie as tie
 
--- the elements below k are the products, and whole is the last of them
 abbrev Inv-loop : tie.InvT-loop
-Inv-loop column dst₀ n whole₀ k₀ dst whole k =
-    (0 < k) × (k ≤ n) × (n ≡ length column / 4) × (length dst ≡ length column)
-    × ((pairsOf whole) ≡ product qm31Units column (k - 1)) × Holds qm31Units (product qm31Units column) 0 k dst
+Inv-loop column dst₀ n whole₀ k₀ dst whole k = (n ≡ length column / 4) × Up qm31Units column dst (length column / 4) k (pairsOf whole)
 
 abbrev μ-loop : tie.MeasureT-loop
 μ-loop column dst₀ n whole₀ k₀ dst whole k = n - k
@@ -25,20 +21,7 @@ store-requires : tie.Need-store-requires Inv-loop μ-loop
 store-requires c κs = omega (arith, c .before .before .before .before .pre .0 .whole)
 
 loop-holds : tie.Need-loop-holds Inv-loop μ-loop
-unfolding product
-loop-holds c =
-    let pre = c .before .before .before .before .before .before .before .pre in
-    let column = c .before .before .before .before .before .before .before .args .column .now in
-    let dst = c .before .before .before .before .before .before .before .args .dst .now in
-    let wrote = c .before .before .store .ensures in
-    let e : (pairsOf (c .before .before .before .before .load .result)) ≡ product qm31Units column 0 = c .before .before .before .before .load .ensures in (
-      omega arith,
-      omega (arith, pre .0 .whole),
-      refl,
-      length-after qm31Units (product qm31Units column) dst 0 (pairsOf (c .before .before .before .before .load .result)) _ wrote ∙ pre .1,
-      e,
-      holds-next qm31Units (product qm31Units column) dst 0 (pairsOf (c .before .before .before .before .load .result)) _ wrote (holds-none qm31Units _ dst 0 0 (omega arith)) (omega (arith, pre .0 .whole)) e,
-    )
+loop-holds c = (refl, up-start qm31Units _ _ (c .before .before .before .before .before .before .before .pre .0) (c .before .before .before .before .before .before .before .args .dst .now) _ _ (omega (arith, c .before .before .before .before .before .before .before .pre .0 .whole)) (c .before .before .before .before .before .before .before .pre .1) (c .before .before .before .before .load .ensures) (c .before .before .store .ensures))
 
 mul-load : tie.Need-mul-load Inv-loop μ-loop
 mul-load c = omega (arith, c .before .before .before .before .before .before .before .before .before .pre .0 .whole, c .before .before .before .before .before .before .before .before .before .good)
@@ -50,16 +33,16 @@ mul-requires : tie.Need-mul-requires Inv-loop μ-loop
 mul-requires c κs =
     let at = c .before .before .loop in
     let column = c .before .before .before .before .before .before .before .before .before .before .pre .0 in
-    (same-unit qm31Units _ _ (at .inv .4) (product-unit qm31Units _ _ (at .k - 1) column (omega arith)) .0, same-unit qm31Units _ _ (c .load2 .ensures) (column .units (at .k) (omega arith)) .0)
+    (up-unit qm31Units _ _ column _ _ _ (at .inv .1) .0, same-unit qm31Units _ _ (c .load2 .ensures) (column .units (at .k) (omega arith)) .0)
 
 mul-store : tie.Need-mul-store Inv-loop μ-loop
-mul-store c = omega (arith, c .before .before .before .before .before .before .before .before .before .before .before .before .pre .0 .whole, c .before .before .before .before .before .before .before .before .before .before .before .before .good, c .before .before .before .loop-test .taken, c .before .before .before .before .loop .inv .2)
+mul-store c = omega (arith, c .before .before .before .before .before .before .before .before .before .before .before .before .pre .0 .whole, c .before .before .before .before .before .before .before .before .before .before .before .before .good, c .before .before .before .loop-test .taken, c .before .before .before .before .loop .inv .0)
 
 store-requires-2 : tie.Need-store-requires-2 Inv-loop μ-loop
-store-requires-2 c κs = omega (arith, c .before .before .before .before .before .before .before .before .before .before .before .before .pre .0 .whole, c .before .before .before .before .loop .inv .3)
+store-requires-2 c κs = omega (arith, c .before .before .before .before .before .before .before .before .before .before .before .before .pre .0 .whole, c .before .before .before .before .loop .inv .1 .long)
 
 add-k : tie.Need-add-k Inv-loop μ-loop
-add-k c = omega (arith, c .before .before .before .before .before .before .before .before .before .before .before .before .before .before .before .pre .0 .whole, c .before .before .before .before .before .before .before .before .before .before .before .before .before .before .before .good, c .before .before .before .before .before .before .loop-test .taken, c .before .before .before .before .before .before .before .loop .inv .2)
+add-k c = omega (arith, c .before .before .before .before .before .before .before .before .before .before .before .before .before .before .before .pre .0 .whole, c .before .before .before .before .before .before .before .before .before .before .before .before .before .before .before .good, c .before .before .before .before .before .before .loop-test .taken, c .before .before .before .before .before .before .before .loop .inv .0)
 
 loop-less : tie.Need-loop-less Inv-loop μ-loop
 loop-less c = omega (arith, c .before .before .before .before .before .before .loop-test .taken)
@@ -67,32 +50,14 @@ loop-less c = omega (arith, c .before .before .before .before .before .before .l
 loop-again : tie.Need-loop-again Inv-loop μ-loop
 loop-again c =
     let at = c .before .before .before .before .before .before .before .loop in
-    let column = c .before .before .before .before .before .before .before .before .before .before .before .before .before .before .before .args .column .now in
-    let pre = c .before .before .before .before .before .before .before .before .before .before .before .before .before .before .before .pre in
-    let whole = (pairsOf (c .before .before .before .before .mul .result)) in
-    let wrote = c .before .before .store2 .ensures in
-    let e : whole ≡ product qm31Units column (at .k + 1 - 1) =
-    c .before .before .before .before .mul .ensures .0 ∙ next-product qm31Units column (at .k) (pairsOf (at .whole)) (pairsOf (c .before .before .before .before .before .load2 .result)) (at .inv .0) (at .inv .4) (c .before .before .before .before .before .load2 .ensures) in
-    let same : at .k + 1 - 1 ≡ at .k = omega arith in (
-      omega arith,
-      omega arith,
-      at .inv .2,
-      length-after qm31Units (product qm31Units column) (at .dst) (at .k) whole _ wrote ∙ at .inv .3,
-      e,
-      holds-next qm31Units (product qm31Units column) (at .dst) (at .k) whole _ wrote (at .inv .5) (omega (arith, pre .0 .whole, at .inv .3)) (e ∙ ap (product qm31Units column) same),
-    )
+    let below : at .k < length (c .before .before .before .before .before .before .before .before .before .before .before .before .before .before .before .args .column .now) / 4 = omega (arith, c .before .before .before .before .before .before .loop-test .taken, at .inv .0) in
+    (at .inv .0, up-next qm31Units _ _ (c .before .before .before .before .before .before .before .before .before .before .before .before .before .before .before .pre .0) (at .dst) _ (at .k) _ _ _ (at .inv .1) below (c .before .before .before .before .before .load2 .ensures) (c .before .before .before .before .mul .ensures .0) (c .before .before .store2 .ensures))
 
 same-length : tie.Need-same-length Inv-loop μ-loop
-same-length c = c .before .loop .inv .3 ∙ sym (c .before .before .before .before .before .before .before .before .before .pre .1)
+same-length c = c .before .loop .inv .1 .long ∙ sym (c .before .before .before .before .before .before .before .before .before .pre .1)
 
 returns : tie.Need-returns Inv-loop μ-loop
-returns c =
-    let at = c .before .loop in
-    let column = c .before .before .before .before .before .before .before .before .before .args .column .now in
-    let last : at .k ≡ length column / 4 = omega arith in (
-      at .inv .4 ∙ ap (λ (j : ℕ). product qm31Units column (j - 1)) last,
-      holds-part qm31Units (product qm31Units column) (at .dst) 0 0 (at .k) (length column / 4) (omega arith) (omega arith) (at .inv .5),
-    )
+returns c = up-end qm31Units _ _ (c .before .before .before .before .before .before .before .before .before .pre .0) _ _ _ (c .before .loop .inv .1) (omega (arith, c .loop-test .left, c .before .loop .inv .0))
 
 pub products-spec : {M : Type 1} → statement M
 products-spec = tie.close (tie.spec Inv-loop μ-loop load-requires store-requires loop-holds mul-load load-requires-2 mul-requires mul-store store-requires-2 add-k loop-less loop-again same-length returns)

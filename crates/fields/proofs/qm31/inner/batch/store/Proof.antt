@@ -1,5 +1,4 @@
 use native.Mathlib.Omega.{arith}
-use native.Mathlib.Nat as N
 use lib.ListN.{length-set}
 use borrow.Author.Needs.{needs}
 use Rattle.fields.proofs.qm31.inner.batch.store.Statement.{statement}

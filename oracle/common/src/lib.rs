@@ -1,0 +1,6 @@
+//! What the comparison and the measurement share: the library's functions, and numbers and elements to call them with.
+
+pub mod args;
+pub mod element;
+pub mod library;
+pub mod random;

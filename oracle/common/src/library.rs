@@ -1,0 +1,19 @@
+//! The library's functions with C linkage, generated from `include/taripomune.h`.
+
+#![allow(non_camel_case_types, unused_variables, unused_mut)]
+
+use crate::args::{Answer, Args};
+
+/// A function of the header.
+pub struct Function {
+    /// Its name in the header without `tari_`.
+    pub name: &'static str,
+    /// Whether it takes a slice.
+    pub slices: bool,
+    /// Calls the library.
+    pub call: fn(&mut Args) -> Answer,
+    /// The values of a refused call: zeros, then the words of the slices lent for writing, as they were.
+    pub refused: fn(&mut Args) -> Vec<u64>,
+}
+
+include!(concat!(env!("OUT_DIR"), "/library.rs"));

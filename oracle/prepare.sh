@@ -1,0 +1,26 @@
+# Read by `run` and `run-speed`: makes the library where it is missing or old, and sees that the header declares just
+# what it exports. Leaves `cargo_run`, the words of a cargo command that both scripts have in common.
+root=$(dirname "$oracle")
+library=$root/target/staticlib/libtaripomune.a
+
+if [ -n "${TARIPOMUNE_LIB:-}" ]; then
+    TARIPOMUNE_LIB=$(realpath "$TARIPOMUNE_LIB")
+    export TARIPOMUNE_LIB
+    library=$TARIPOMUNE_LIB/libtaripomune.a
+elif [ ! -e "$library" ] || [ -n "$(find "$root/crates" -name '*.rt' -newer "$library" -print -quit)" ]; then
+    (cd "$root" && rt staticlib taripomune)
+fi
+if [ -n "${STWO_SRC:-}" ]; then
+    STWO_SRC=$(realpath "$STWO_SRC")
+    export STWO_SRC
+fi
+
+exported=$(nm --defined-only "$library" | awk '$2 == "T" { print $3 }' | sort)
+declared=$(sed -n 's/^tari_[a-z0-9_]* \(tari_[a-z0-9_]*\)(.*/\1/p' "$root/include/taripomune.h" | sort)
+if ! diff <(echo "$exported") <(echo "$declared"); then
+    echo "the library's functions (<) aren't those of include/taripomune.h (>)" >&2
+    exit 1
+fi
+
+cargo_run=(cargo run --offline --quiet --target-dir "$root/target/oracle"
+    --manifest-path "$oracle/Cargo.toml" --config "$oracle/.cargo/config.toml")

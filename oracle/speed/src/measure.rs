@@ -1,0 +1,50 @@
+//! Times two pieces of work in turn.
+
+use std::time::{Duration, Instant};
+
+/// A visit of a row takes about so long.
+const TIME: Duration = Duration::from_secs(1);
+
+pub struct Row {
+    pub what: &'static str,
+    /// Nanoseconds an element, as in `library`.
+    pub rust: f64,
+    pub library: f64,
+    /// How many times as long as the Rust the library may take.
+    pub limit: f64,
+    /// Whether both sides gave the same answer.
+    pub equal: bool,
+}
+
+impl Row {
+    pub fn ratio(&self) -> f64 {
+        self.library / self.rust
+    }
+
+    pub fn passes(&self) -> bool {
+        self.equal && self.ratio() <= self.limit
+    }
+
+    /// The best times of two visits of a row.
+    pub fn better(self, other: Row) -> Row {
+        let (rust, library) = (self.rust.min(other.rust), self.library.min(other.library));
+        Row { rust, library, equal: self.equal && other.equal, ..self }
+    }
+}
+
+/// The best times of both sides in nanoseconds an element; they run in turn, so that a disturbance meets both.
+pub fn best(elements: usize, mut rust: impl FnMut(), mut library: impl FnMut()) -> (f64, f64) {
+    let start = Instant::now();
+    let mut best = (f64::MAX, f64::MAX);
+    while start.elapsed() < TIME {
+        best.0 = best.0.min(nanoseconds(&mut rust));
+        best.1 = best.1.min(nanoseconds(&mut library));
+    }
+    (best.0 / elements as f64, best.1 / elements as f64)
+}
+
+fn nanoseconds(work: &mut impl FnMut()) -> f64 {
+    let start = Instant::now();
+    work();
+    start.elapsed().as_nanos() as f64
+}
