@@ -2,8 +2,9 @@
  *
  * Every call answers with a struct by value: `number` is 0 where the call is accepted, else document 01's number of
  * the refusal; `position` is the refusal's position; the values follow, 0 on a refusal. A slice is a pointer and then
- * a length in elements; a 128-bit number is its high word and then its low word. A refused call writes no word of any
- * slice lent to it. One prototype a line: this file is the one list of declarations. */
+ * a length in words; the slices of a call must not overlap. A 128-bit number is its high word and then its low word. A
+ * refused call writes no word of any slice lent to it. One prototype a line: this file is the one list of
+ * declarations. */
 #ifndef TARIPOMUNE_H
 #define TARIPOMUNE_H
 
