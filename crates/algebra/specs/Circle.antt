@@ -1,7 +1,8 @@
 -- The circle group over a ring: the pairs (x, y) with x² + y² = 1. They are the elements of norm 1 of O[i].
-use Prim.Native.Nat.{ℕ, zero, suc, _+_, _*_}
+use Prim.Native.Nat.{ℕ, zero, suc, _+_, _*_, _/_, _%_}
 use mathlib.Core.Path.{_≡_, refl, sym, _∙_, ap, ap₂}
 use mathlib.Core.List.{[], _∷_}
+use native.Mathlib.Omega.{arith}
 use Rattle.algebra.specs.Ring.{Ops, Laws, sub, two}
 use Rattle.algebra.specs.Polynomial.{Expr, _:*_, :-_, exprs, given, v0, v1, v2, v3, v4, v5}
 use Rattle.algebra.specs.Solver.{solve, solvePair, solveFrom}
@@ -63,6 +64,24 @@ module _ (O : Ops) (L : Laws O) where
   pub multiple-mul : (m n : ℕ) (p : O .El × O .El) → multiple O (m * n) p ≡ multiple O m (multiple O n p)
   multiple-mul m n p =
       multiple-pow (m * n) p ∙ pow-mul (complex O) (complex-laws O L) p m n ∙ sym (multiple-pow m (multiple O n p) ∙ ap (λ t. pow (complex O) t m) (multiple-pow n p))
+
+  pub multiple-one : (p : O .El × O .El) → multiple O 1 p ≡ p
+  unfolding multiple
+  multiple-one p = plus-zero p
+
+  pub multiple-two : (p : O .El × O .El) → multiple O 2 p ≡ plus O p p
+  unfolding multiple
+  multiple-two p = ap (plus O p) (plus-zero p)
+
+  -- one step of double-and-add: the lowest bit of the count is used, and the point doubled
+  pub double-and-add : (a p : O .El × O .El) (n : ℕ) → plus O (plus O a (multiple O (n % 2) p)) (multiple O (n / 2) (plus O p p)) ≡ plus O a (multiple O n p)
+  double-and-add a p n =
+      plus-assoc a (multiple O (n % 2) p) (multiple O (n / 2) (plus O p p))
+      ∙ ap (plus O a) (ap (λ t. plus O (multiple O (n % 2) p) (multiple O (n / 2) t)) (sym (multiple-two p))
+      ∙ ap (plus O (multiple O (n % 2) p)) (sym (multiple-mul (n / 2) 2 p)) ∙ sym (multiple-add (n % 2) (n / 2 * 2) p) ∙ ap (λ t. multiple O t p) whole)
+    where
+      whole : n % 2 + n / 2 * 2 ≡ n
+      whole = omega arith
 
   pub multiple-zeroPoint : (m : ℕ) → multiple O m (zeroPoint O) ≡ zeroPoint O
   multiple-zeroPoint m = multiple-pow m (zeroPoint O) ∙ one-pow (complex O) (complex-laws O L) m

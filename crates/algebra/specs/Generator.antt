@@ -89,3 +89,25 @@ G-order k = (down, up)
     up e =
         ap (λ (x : ℕ). multiple m31 x G) (whole e) ∙ multiple-mul m31 m31-laws (k / 2 ^ 31) (2 ^ 31) G
         ∙ ap (multiple m31 (k / 2 ^ 31)) G-whole ∙ multiple-zeroPoint m31 m31-laws (k / 2 ^ 31)
+
+-- two multiples of G are equal exactly where their counts agree modulo 2^31
+pub G-equal : (a b : ℕ) → (multiple m31 a G ≡ multiple m31 b G) ↔ (a % 2 ^ 31 ≡ b % 2 ^ 31)
+G-equal a b = (down, up)
+  where
+    -- b + (2^31 - 1) a copies of G are none
+    difference : multiple m31 a G ≡ multiple m31 b G → multiple m31 (b + a * 2147483647) G ≡ zeroPoint m31
+    difference e =
+        multiple-add m31 m31-laws b (a * 2147483647) G ∙ ap (λ t. plus m31 t (multiple m31 (a * 2147483647) G)) (sym e)
+        ∙ sym (multiple-add m31 m31-laws a (a * 2147483647) G) ∙ G-order (a + a * 2147483647) .1 (omega arith)
+
+    down : multiple m31 a G ≡ multiple m31 b G → a % 2 ^ 31 ≡ b % 2 ^ 31
+    down e = omega (arith, G-order (b + a * 2147483647) .0 (difference e))
+
+    reduced : (k : ℕ) → multiple m31 k G ≡ multiple m31 (k % 2 ^ 31) G
+    reduced k = ap (λ (t : ℕ). multiple m31 t G) (whole k) ∙ multiple-shift (k % 2 ^ 31) (k / 2 ^ 31)
+      where
+        whole : (k : ℕ) → k ≡ k % 2 ^ 31 + k / 2 ^ 31 * 2 ^ 31
+        whole k = omega arith
+
+    up : a % 2 ^ 31 ≡ b % 2 ^ 31 → multiple m31 a G ≡ multiple m31 b G
+    up e = reduced a ∙ ap (λ (t : ℕ). multiple m31 t G) e ∙ sym (reduced b)

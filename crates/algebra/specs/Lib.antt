@@ -15,3 +15,5 @@ pub mod Circle
 pub mod Frobenius
 pub mod Generator
 pub mod Homomorphism
+pub mod Doubling
+pub mod CircleHomomorphism

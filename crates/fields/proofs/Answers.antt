@@ -83,7 +83,7 @@ pair-value a p e = ap (λ (t : ℕ × ℕ). CA.Value (ofPair t)) e
 pub ruleset complexes = (first-below, second-below, pair-value)
 
 -- QM31
-words-below : (a : QM31) (u : Bool) → u ≡ Q.reduced a → not u ≡ false → Q.Reduced a
+pub words-below : (a : QM31) (u : Bool) → u ≡ Q.reduced a → not u ≡ false → Q.Reduced a
 words-below a u e h =
     let k = and-eq-true-iff (C.reduced (a .0)) (C.reduced (a .1)) .0 (sym e ∙ not-false u h) in
     (both-below (a .0 .0 .0) (a .0 .1 .0) (k .0), both-below (a .1 .0 .0) (a .1 .1 .0) (k .1))

@@ -1,7 +1,7 @@
--- How code takes a signed number x of any width apart: a negative x is negsuc of - (x + 1), another is its own size.
+-- Signed numbers: the sign and the size of one, and how code takes a number x of any width apart, a negative one by - (x + 1).
 use mathlib.Core.Path.{_≡_, refl, ap, _∙_, subst}
 use mathlib.Core.Bool.{true, false}
-use Prim.Native.Nat.{ℕ, zero, suc, _-_, _<_, _^_}
+use Prim.Native.Nat.{ℕ, zero, suc, _+_, _-_, _<_, _^_}
 use native.Mathlib.Nat.{not-suc-le-zero, zero-add}
 use native.Mathlib.Omega.{arith}
 use borrow.Author.Tests.{ltb-true, lt-ltb}
@@ -10,6 +10,12 @@ use lib.Signed.{mag, ltZ}
 use mir.Syntax.{Width}
 use mir.Val.{SFits, hbits, toZ, ofZ}
 use mir.Facts.{toZ-ofZ}
+use Rattle.fields.specs.declared.signed.SignAndSize.{SignAndSize}
+
+-- the sign and the size; negsuc n is - (n + 1)
+abbrev pub partsOf : ℤ → SignAndSize
+partsOf (pos n) = record { negative = false; size = n }
+partsOf (negsuc n) = record { negative = true; size = n + 1 }
 
 negsuc-plus-one : (n : ℕ) → negsuc n +ℤ pos 1 ≡ negℤ (pos n)
 negsuc-plus-one zero = refl
@@ -57,9 +63,15 @@ module _ (w : Width) where
     pub negated-reads : read w (pos 0 -ℤ read w (read w x +ℤ pos 1)) ≡ pos (mag x)
     negated-reads = toZ-ofZ negated-fits ∙ negated
 
+    pub negative-parts : record { negative = true; size = mag x + 1 } ≡ partsOf x
+    negative-parts = rw is-negative
+
   module _ (x : ℤ) (s : SFits w x) (t : ltZ (read w x) (pos 0) ≡ false) where
     pub is-positive : x ≡ pos (mag x)
     is-positive = positive x (subst (λ (z : ℤ). ltZ z (pos 0) ≡ false) (toZ-ofZ s) t)
 
     pub positive-reads : read w x ≡ pos (mag x)
     positive-reads = toZ-ofZ s ∙ is-positive
+
+    pub positive-parts : record { negative = false; size = mag x } ≡ partsOf x
+    positive-parts = rw is-positive

@@ -1,7 +1,8 @@
-// The fields (stwo's core/fields): M31, CM31 and QM31, and what every layer shares, refusals and answers.
+// The fields (stwo's core/fields): M31, CM31 and QM31, and what every layer shares: refusals, answers, signed numbers.
 pub mod answer;
 pub mod batch;
 pub mod cm31;
 pub mod m31;
 pub mod qm31;
 pub mod refusal;
+pub mod signed;

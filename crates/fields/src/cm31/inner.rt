@@ -64,8 +64,8 @@ pub fn mul(a: CM31, b: CM31) -> CM31
     let bd = m31::product(a.1.0, b.1.0);
     let ad = m31::product(a.0.0, b.1.0);
     let bc = m31::product(a.1.0, b.0.0);
-    let re = m31::reduce_wide(ac + (P_SQUARED - bd));
-    let im = m31::reduce_wide(ad + bc);
+    let re = m31::reduce_two(ac + (P_SQUARED - bd));
+    let im = m31::reduce_two(ad + bc);
     CM31(M31(re), M31(im))
 }
 

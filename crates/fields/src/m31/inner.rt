@@ -13,6 +13,8 @@ const TWO_POW_31: u32 = 2147483648;
 
 const TWO_POW_31_U64: u64 = 2147483648;
 
+const TWO_P: u64 = 4294967294;
+
 pub fn partial_reduce(val: u32) -> u32
     requires { ⌜ val < 2 * P ⌝ }
     ensures { λ r. ⌜ r ≡ val % P ⌝ }
@@ -76,6 +78,35 @@ pub fn reduce_wide(val: u64) -> u32
     let low = (once % TWO_POW_31_U64) as u32;
     let high = (once / TWO_POW_31_U64) as u32;
     partial_reduce(low + high)
+}
+
+// A sum of two products: the bits from 31 on, added to those below once, leave less than 3P. Choices do the rest, which
+// are shorter than masks where one sum waits for another.
+pub fn reduce_two(val: u64) -> u32
+    requires { ⌜ val < 2 * (P * P) ⌝ }
+    ensures { λ r. ⌜ r ≡ val % P ⌝ }
+{
+    below_p(below_two_p(val % TWO_POW_31_U64 + val / TWO_POW_31_U64))
+}
+
+fn below_two_p(sum: u64) -> u32
+    requires { ⌜ sum < 3 * P ⌝ }
+    ensures { λ r. ⌜ (r % P ≡ sum % P) × (r < 2 * P) ⌝ }
+{
+    if sum < TWO_P {
+        return sum as u32;
+    }
+    (sum - TWO_P) as u32
+}
+
+fn below_p(sum: u32) -> u32
+    requires { ⌜ sum < 2 * P ⌝ }
+    ensures { λ r. ⌜ r ≡ sum % P ⌝ }
+{
+    if sum < P {
+        return sum;
+    }
+    sum - P
 }
 
 // the exponent high 2^64 + low is not 0
