@@ -14,6 +14,10 @@ typedef struct { uint32_t number; uint64_t position; uint32_t value; } tari_m31_
 typedef struct { uint32_t number; uint64_t position; uint32_t value; } tari_bool_reply;
 typedef struct { uint32_t number; uint64_t position; uint32_t a; uint32_t b; } tari_cm31_reply;
 typedef struct { uint32_t number; uint64_t position; uint32_t a; uint32_t b; uint32_t c; uint32_t d; } tari_qm31_reply;
+typedef struct { uint32_t number; uint64_t position; uint32_t x; uint32_t y; } tari_point_reply;
+typedef struct { uint32_t number; uint64_t position; uint32_t x0; uint32_t x1; uint32_t x2; uint32_t x3; uint32_t y0; uint32_t y1; uint32_t y2; uint32_t y3; } tari_secure_point_reply;
+typedef struct { uint32_t number; uint64_t position; uint64_t index; } tari_index_reply;
+typedef struct { uint32_t number; uint64_t position; uint32_t value; } tari_u32_reply;
 typedef struct { uint32_t number; uint64_t position; } tari_write_reply;
 
 /* M31: one word below P = 2147483647. */
@@ -104,5 +108,48 @@ tari_write_reply tari_cm31_batch_inverse_in_place(const uint32_t *column, uint64
 tari_write_reply tari_cm31_batch_inverse_chunked(const uint32_t *column, uint64_t column_len, uint32_t *dst, uint64_t dst_len, uint64_t chunk_size);
 tari_write_reply tari_qm31_batch_inverse_in_place(const uint32_t *column, uint64_t column_len, uint32_t *dst, uint64_t dst_len);
 tari_write_reply tari_qm31_batch_inverse_chunked(const uint32_t *column, uint64_t column_len, uint32_t *dst, uint64_t dst_len, uint64_t chunk_size);
+
+/* Points over M31, x and then y; they needn't lie on the circle. mul adds a point scalar_high 2^64 + scalar_low times. */
+tari_point_reply tari_point_zero(void);
+tari_point_reply tari_point_add(uint32_t ax, uint32_t ay, uint32_t bx, uint32_t by);
+tari_point_reply tari_point_sub(uint32_t ax, uint32_t ay, uint32_t bx, uint32_t by);
+tari_point_reply tari_point_neg(uint32_t x, uint32_t y);
+tari_point_reply tari_point_double(uint32_t x, uint32_t y);
+tari_m31_reply tari_point_double_x(uint32_t x);
+tari_point_reply tari_point_mul(uint32_t x, uint32_t y, uint64_t scalar_high, uint64_t scalar_low);
+tari_point_reply tari_point_mul_signed(uint32_t x, uint32_t y, int64_t off);
+tari_point_reply tari_point_repeated_double(uint32_t x, uint32_t y, uint32_t n);
+tari_point_reply tari_point_conjugate(uint32_t x, uint32_t y);
+tari_point_reply tari_point_antipode(uint32_t x, uint32_t y);
+tari_point_reply tari_point_complex_conjugate(uint32_t x, uint32_t y);
+tari_secure_point_reply tari_point_into_ef(uint32_t x, uint32_t y);
+tari_u32_reply tari_point_log_order(uint32_t x, uint32_t y);
+
+/* Points over QM31: the four words of x and then those of y. */
+tari_secure_point_reply tari_secure_point_zero(void);
+tari_secure_point_reply tari_secure_point_add(uint32_t ax0, uint32_t ax1, uint32_t ax2, uint32_t ax3, uint32_t ay0, uint32_t ay1, uint32_t ay2, uint32_t ay3, uint32_t bx0, uint32_t bx1, uint32_t bx2, uint32_t bx3, uint32_t by0, uint32_t by1, uint32_t by2, uint32_t by3);
+tari_secure_point_reply tari_secure_point_sub(uint32_t ax0, uint32_t ax1, uint32_t ax2, uint32_t ax3, uint32_t ay0, uint32_t ay1, uint32_t ay2, uint32_t ay3, uint32_t bx0, uint32_t bx1, uint32_t bx2, uint32_t bx3, uint32_t by0, uint32_t by1, uint32_t by2, uint32_t by3);
+tari_secure_point_reply tari_secure_point_neg(uint32_t x0, uint32_t x1, uint32_t x2, uint32_t x3, uint32_t y0, uint32_t y1, uint32_t y2, uint32_t y3);
+tari_secure_point_reply tari_secure_point_double(uint32_t x0, uint32_t x1, uint32_t x2, uint32_t x3, uint32_t y0, uint32_t y1, uint32_t y2, uint32_t y3);
+tari_qm31_reply tari_secure_point_double_x(uint32_t x0, uint32_t x1, uint32_t x2, uint32_t x3);
+tari_secure_point_reply tari_secure_point_mul(uint32_t x0, uint32_t x1, uint32_t x2, uint32_t x3, uint32_t y0, uint32_t y1, uint32_t y2, uint32_t y3, uint64_t scalar_high, uint64_t scalar_low);
+tari_secure_point_reply tari_secure_point_mul_signed(uint32_t x0, uint32_t x1, uint32_t x2, uint32_t x3, uint32_t y0, uint32_t y1, uint32_t y2, uint32_t y3, int64_t off);
+tari_secure_point_reply tari_secure_point_repeated_double(uint32_t x0, uint32_t x1, uint32_t x2, uint32_t x3, uint32_t y0, uint32_t y1, uint32_t y2, uint32_t y3, uint32_t n);
+tari_secure_point_reply tari_secure_point_conjugate(uint32_t x0, uint32_t x1, uint32_t x2, uint32_t x3, uint32_t y0, uint32_t y1, uint32_t y2, uint32_t y3);
+tari_secure_point_reply tari_secure_point_antipode(uint32_t x0, uint32_t x1, uint32_t x2, uint32_t x3, uint32_t y0, uint32_t y1, uint32_t y2, uint32_t y3);
+tari_secure_point_reply tari_secure_point_complex_conjugate(uint32_t x0, uint32_t x1, uint32_t x2, uint32_t x3, uint32_t y0, uint32_t y1, uint32_t y2, uint32_t y3);
+tari_secure_point_reply tari_secure_point_get_point(uint64_t index_high, uint64_t index_low);
+
+/* Point indices, 0 to 2^31: the point of index k is G added k times to zero. */
+tari_index_reply tari_index_zero(void);
+tari_index_reply tari_index_generator(void);
+tari_index_reply tari_index_reduce(uint64_t index);
+tari_index_reply tari_index_subgroup_gen(uint32_t log_size);
+tari_point_reply tari_index_to_point(uint64_t index);
+tari_index_reply tari_index_half(uint64_t index);
+tari_index_reply tari_index_add(uint64_t a, uint64_t b);
+tari_index_reply tari_index_sub(uint64_t a, uint64_t b);
+tari_index_reply tari_index_neg(uint64_t index);
+tari_index_reply tari_index_mul(uint64_t index, uint64_t count);
 
 #endif

@@ -1,10 +1,13 @@
 // Replays the recorded answers of data/ through the C entry points, and prints how many came out as recorded.
 mod batch;
 mod cm31;
+mod index;
 mod line;
 mod m31;
+mod point;
 mod qm31;
 mod row;
+mod secure_point;
 mod values;
 
 // Whose functions the lines of a file name; the prefix of a name as m31_add_cm31 does not tell.
@@ -13,6 +16,9 @@ enum Module {
     CM31,
     QM31,
     Batch,
+    Point,
+    SecurePoint,
+    Index,
 }
 
 struct Tally {
@@ -39,6 +45,9 @@ fn called(which: Module, name: &[u8], row: row::Row) -> row::Reply {
         Module::CM31 => cm31::called(name, row),
         Module::QM31 => qm31::called(name, row),
         Module::Batch => batch::called(name, row),
+        Module::Point => point::called(name, row),
+        Module::SecurePoint => secure_point::called(name, row),
+        Module::Index => index::called(name, row),
     }
 }
 
@@ -104,4 +113,7 @@ fn main() {
     replay(Module::CM31, b"cm31.txt");
     replay(Module::QM31, b"qm31.txt");
     replay(Module::Batch, b"batch.txt");
+    replay(Module::Point, b"point.txt");
+    replay(Module::SecurePoint, b"secure_point.txt");
+    replay(Module::Index, b"index.txt");
 }

@@ -4,8 +4,12 @@ use crate::row::Reply;
 use crate::row::at;
 use taripomune::reply::BoolReply;
 use taripomune::reply::CM31Reply;
+use taripomune::reply::IndexReply;
 use taripomune::reply::M31Reply;
+use taripomune::reply::PointReply;
 use taripomune::reply::QM31Reply;
+use taripomune::reply::SecurePointReply;
+use taripomune::reply::U32Reply;
 use taripomune::reply::WriteReply;
 
 // A number as a u32; the largest where it is larger.
@@ -33,6 +37,16 @@ pub fn signed(x: u64) -> i32 {
     -1 - below
 }
 
+// A number modulo 2^64 as an i64.
+pub fn signed_wide(x: u64) -> i64 {
+    if x < 0x8000_0000_0000_0000 {
+        return x as i64;
+    }
+    let above = 18446744073709551615 - x;
+    let below = above as i64;
+    -1 - below
+}
+
 // Where there is no such call.
 pub fn unknown() -> Reply {
     Reply {
@@ -49,18 +63,22 @@ fn reply_of(number: u32, position: u64) -> Reply {
     Reply { numbers, count: 2 }
 }
 
-// The reply with one word more.
-fn with_word(reply: Reply, value: u32) -> Reply {
+// The reply with one number more.
+fn with_number(reply: Reply, value: u64) -> Reply {
     let count = reply.count;
     if MOST <= count {
         return reply;
     }
     let mut numbers = reply.numbers;
-    numbers[count] = value as u64;
+    numbers[count] = value;
     Reply {
         numbers,
         count: count + 1,
     }
+}
+
+fn with_word(reply: Reply, value: u32) -> Reply {
+    with_number(reply, value as u64)
 }
 
 pub fn flag(r: BoolReply) -> Reply {
@@ -81,6 +99,30 @@ pub fn qm31(r: QM31Reply) -> Reply {
     let second = with_word(first, r.b);
     let third = with_word(second, r.c);
     with_word(third, r.d)
+}
+
+pub fn count(r: U32Reply) -> Reply {
+    with_word(reply_of(r.number, r.position), r.value)
+}
+
+pub fn index(r: IndexReply) -> Reply {
+    with_number(reply_of(r.number, r.position), r.index)
+}
+
+pub fn point(r: PointReply) -> Reply {
+    let first = with_word(reply_of(r.number, r.position), r.x);
+    with_word(first, r.y)
+}
+
+pub fn secure_point(r: SecurePointReply) -> Reply {
+    let x0 = with_word(reply_of(r.number, r.position), r.x0);
+    let x1 = with_word(x0, r.x1);
+    let x2 = with_word(x1, r.x2);
+    let x3 = with_word(x2, r.x3);
+    let y0 = with_word(x3, r.y0);
+    let y1 = with_word(y0, r.y1);
+    let y2 = with_word(y1, r.y2);
+    with_word(y2, r.y3)
 }
 
 // The words of the destination follow.

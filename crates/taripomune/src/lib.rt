@@ -1,6 +1,9 @@
 // The C interface: numbers and slices in, one struct of numbers out. include/taripomune.h declares it for C.
 pub mod batch;
 pub mod cm31;
+pub mod index;
 pub mod m31;
+pub mod point;
 pub mod qm31;
 pub mod reply;
+pub mod secure_point;

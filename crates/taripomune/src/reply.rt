@@ -1,7 +1,11 @@
 // Replies: document 01's number (0: accepted) and position, then the values (0 on a refusal).
 ghost use mathlib.Core.Path.{_≡_};
-ghost use Rattle.taripomune.specs.Reply.{m31Reply, boolReply, cm31Reply, qm31Reply, arrayReply, writeReply};
+ghost use Rattle.taripomune.specs.Reply.{m31Reply, boolReply, u32Reply, cm31Reply, qm31Reply, arrayReply, pointReply, securePointReply, indexReply, writeReply};
+use circle::index::CirclePointIndexAnswer;
+use circle::point::CirclePointAnswer;
+use circle::secure_point::SecureCirclePointAnswer;
 use fields::answer::BoolAnswer;
+use fields::answer::U32Answer;
 use fields::answer::WriteAnswer;
 use fields::cm31::CM31Answer;
 use fields::m31::M31Answer;
@@ -18,6 +22,14 @@ pub struct M31Reply {
 // yes is 1, no is 0
 #[repr(C)]
 pub struct BoolReply {
+    pub number: u32,
+    pub position: u64,
+    pub value: u32,
+}
+
+// a log size or a count
+#[repr(C)]
+pub struct U32Reply {
     pub number: u32,
     pub position: u64,
     pub value: u32,
@@ -41,6 +53,37 @@ pub struct QM31Reply {
     pub b: u32,
     pub c: u32,
     pub d: u32,
+}
+
+// a point over M31
+#[repr(C)]
+pub struct PointReply {
+    pub number: u32,
+    pub position: u64,
+    pub x: u32,
+    pub y: u32,
+}
+
+// a point over QM31: the words of x and then of y
+#[repr(C)]
+pub struct SecurePointReply {
+    pub number: u32,
+    pub position: u64,
+    pub x0: u32,
+    pub x1: u32,
+    pub x2: u32,
+    pub x3: u32,
+    pub y0: u32,
+    pub y1: u32,
+    pub y2: u32,
+    pub y3: u32,
+}
+
+#[repr(C)]
+pub struct IndexReply {
+    pub number: u32,
+    pub position: u64,
+    pub index: u64,
 }
 
 // of a call that writes to a lent slice
@@ -77,6 +120,23 @@ pub fn bool_reply(answer: BoolAnswer) -> BoolReply
             value: b as u32,
         },
         BoolAnswer::Refused(why) => BoolReply {
+            number: why.number(),
+            position: why.position(),
+            value: 0,
+        },
+    }
+}
+
+pub fn u32_reply(answer: U32Answer) -> U32Reply
+    ensures { λ r. ⌜ r ≡ u32Reply answer ⌝ }
+{
+    match answer {
+        U32Answer::Value(value) => U32Reply {
+            number: 0,
+            position: 0,
+            value: value,
+        },
+        U32Answer::Refused(why) => U32Reply {
             number: why.number(),
             position: why.position(),
             value: 0,
@@ -146,6 +206,73 @@ pub fn array_reply(answer: M31ArrayAnswer) -> QM31Reply
             b: 0,
             c: 0,
             d: 0,
+        },
+    }
+}
+
+pub fn point_reply(answer: CirclePointAnswer) -> PointReply
+    ensures { λ r. ⌜ r ≡ pointReply answer ⌝ }
+{
+    match answer {
+        CirclePointAnswer::Value(value) => PointReply {
+            number: 0,
+            position: 0,
+            x: value.x.0,
+            y: value.y.0,
+        },
+        CirclePointAnswer::Refused(why) => PointReply {
+            number: why.number(),
+            position: why.position(),
+            x: 0,
+            y: 0,
+        },
+    }
+}
+
+pub fn secure_point_reply(answer: SecureCirclePointAnswer) -> SecurePointReply
+    ensures { λ r. ⌜ r ≡ securePointReply answer ⌝ }
+{
+    match answer {
+        SecureCirclePointAnswer::Value(value) => SecurePointReply {
+            number: 0,
+            position: 0,
+            x0: value.x.0.0.0,
+            x1: value.x.0.1.0,
+            x2: value.x.1.0.0,
+            x3: value.x.1.1.0,
+            y0: value.y.0.0.0,
+            y1: value.y.0.1.0,
+            y2: value.y.1.0.0,
+            y3: value.y.1.1.0,
+        },
+        SecureCirclePointAnswer::Refused(why) => SecurePointReply {
+            number: why.number(),
+            position: why.position(),
+            x0: 0,
+            x1: 0,
+            x2: 0,
+            x3: 0,
+            y0: 0,
+            y1: 0,
+            y2: 0,
+            y3: 0,
+        },
+    }
+}
+
+pub fn index_reply(answer: CirclePointIndexAnswer) -> IndexReply
+    ensures { λ r. ⌜ r ≡ indexReply answer ⌝ }
+{
+    match answer {
+        CirclePointIndexAnswer::Value(value) => IndexReply {
+            number: 0,
+            position: 0,
+            index: value.0,
+        },
+        CirclePointIndexAnswer::Refused(why) => IndexReply {
+            number: why.number(),
+            position: why.position(),
+            index: 0,
         },
     }
 }

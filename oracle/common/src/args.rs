@@ -2,6 +2,7 @@
 
 use crate::element::{elements, Element};
 use std::slice::Iter;
+use stwo::core::circle::{CirclePoint, CirclePointIndex};
 use stwo::core::fields::cm31::CM31;
 use stwo::core::fields::m31::M31;
 use stwo::core::fields::qm31::QM31;
@@ -40,6 +41,19 @@ impl Args<'_> {
 
     pub fn qm31(&mut self) -> QM31 {
         self.element()
+    }
+
+    /// A point, its words known to be below P.
+    pub fn point(&mut self) -> CirclePoint<M31> {
+        CirclePoint { x: self.m31(), y: self.m31() }
+    }
+
+    pub fn secure_point(&mut self) -> CirclePoint<QM31> {
+        CirclePoint { x: self.qm31(), y: self.qm31() }
+    }
+
+    pub fn index(&mut self) -> CirclePointIndex {
+        CirclePointIndex(self.take())
     }
 
     /// A slice: its length, then its words.

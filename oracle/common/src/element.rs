@@ -1,5 +1,6 @@
-//! Elements of the three fields as words.
+//! Elements of the three fields, and points over them, as words.
 
+use stwo::core::circle::CirclePoint;
 use stwo::core::fields::cm31::CM31;
 use stwo::core::fields::m31::M31;
 use stwo::core::fields::qm31::QM31;
@@ -59,4 +60,14 @@ pub fn elements<T: Element>(words: &[u32]) -> Vec<T> {
 /// The words of a column of elements.
 pub fn words_of<T: Element>(elements: &[T]) -> Vec<u32> {
     elements.iter().flat_map(T::words).collect()
+}
+
+/// The point of these words, those of x and then those of y.
+pub fn point<T: Element>(words: &[u32]) -> CirclePoint<T> {
+    let (x, y) = words.split_at(T::WIDTH);
+    CirclePoint { x: T::of(x), y: T::of(y) }
+}
+
+pub fn point_words<T: Element>(point: &CirclePoint<T>) -> Vec<u32> {
+    [point.x.words(), point.y.words()].concat()
 }

@@ -2,7 +2,8 @@
 
 use crate::kinds::Kind;
 use common::args::Args;
-use common::element::Element;
+use common::element::{point_words, Element};
+use stwo::core::circle::CirclePoint;
 
 /// A function to compare: how its arguments are drawn and refused, and what the Rust answers where they aren't.
 pub struct Entry {
@@ -19,4 +20,9 @@ pub const fn entry(name: &'static str, takes: &'static [Kind], rust: fn(&mut Arg
 /// The values of an answer that is one element.
 pub fn words<T: Element>(element: T) -> Vec<u64> {
     element.words().into_iter().map(u64::from).collect()
+}
+
+/// The values of an answer that is a point.
+pub fn coordinates<T: Element>(point: CirclePoint<T>) -> Vec<u64> {
+    point_words(&point).into_iter().map(u64::from).collect()
 }

@@ -31,7 +31,7 @@ pub fn refused_if(condition: bool, number: u32) -> Option<Refusal> {
     condition.then_some(Refusal { number, position: 0 })
 }
 
-fn each(numbers: &[i128]) -> Vec<Vec<i128>> {
+pub fn each(numbers: &[i128]) -> Vec<Vec<i128>> {
     numbers.iter().map(|number| vec![*number]).collect()
 }
 
@@ -52,7 +52,7 @@ pub const DIVISOR: Kind =
     Kind { refusal: |numbers| (WORD.refusal)(numbers).or(refused_if(numbers[0] == 0, 3)), ..WORD };
 
 /// The words of an element of so many words.
-const fn element<const WIDTH: usize>() -> Kind {
+pub const fn element<const WIDTH: usize>() -> Kind {
     Kind {
         limits: || element_limits(WIDTH),
         draw: |random| {
@@ -174,7 +174,7 @@ const EXPONENTS: [u128; 14] = [
     u128::MAX,
 ];
 
-fn high_and_low(number: u128) -> Vec<i128> {
+pub fn high_and_low(number: u128) -> Vec<i128> {
     vec![(number >> 64) as i128, i128::from(number as u64)]
 }
 
@@ -185,7 +185,7 @@ pub const EXPONENT: Kind = Kind {
     refusal: |_| None,
 };
 
-const P_2: u128 = (P * P) as u128;
+pub const P_2: u128 = (P * P) as u128;
 
 /// 128 bits as two words, the orders of CM31 and QM31 among the limits.
 pub const EXTENSION_EXPONENT: Kind = Kind {

@@ -2,14 +2,18 @@
 
 mod batch;
 mod check;
+mod circle_kinds;
 mod cm31;
 mod columns;
 mod entry;
+mod index;
 mod inputs;
 mod kinds;
 mod m31;
+mod point;
 mod qm31;
 mod record;
+mod secure_point;
 
 use check::{check, Tally};
 use common::library::{Function, FUNCTIONS};
@@ -25,6 +29,9 @@ const MODULES: &[(&str, &[Entry], usize)] = &[
     ("cm31", cm31::ENTRIES, 3_000),
     ("qm31", qm31::ENTRIES, 1_900),
     ("batch", batch::ENTRIES, 12_000),
+    ("point", point::ENTRIES, 4_200),
+    ("secure_point", secure_point::ENTRIES, 6_000),
+    ("index", index::ENTRIES, 4_200),
 ];
 
 /// `replay` reads shorter files only.

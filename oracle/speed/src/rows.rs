@@ -1,12 +1,14 @@
 //! What is measured.
 
 use crate::measure::{best, Row};
-use common::element::{elements, words_of, Element};
+use common::element::{elements, point, point_words, words_of, Element};
 use common::library::{
-    tari_m31_batch_inverse_in_place, tari_qm31_batch_inverse_in_place, tari_qm31_mul, tari_write_reply,
+    tari_index_to_point, tari_m31_batch_inverse_in_place, tari_point_add, tari_point_repeated_double, tari_point_reply,
+    tari_qm31_batch_inverse_in_place, tari_qm31_mul, tari_secure_point_add, tari_write_reply,
 };
 use common::random::Random;
 use std::hint::black_box;
+use stwo::core::circle::{CirclePoint, CirclePointIndex};
 use stwo::core::fields::batch_inverse_in_place;
 use stwo::core::fields::m31::{M31, P};
 use stwo::core::fields::qm31::QM31;
@@ -14,11 +16,18 @@ use stwo::core::fields::qm31::QM31;
 pub const ROWS: &[fn() -> Row] = &[
     || batch_inverse::<M31>("m31_batch_inverse_in_place, 2^20 elements", 1 << 20, tari_m31_batch_inverse_in_place),
     || batch_inverse::<QM31>("qm31_batch_inverse_in_place, 2^18 elements", 1 << 18, tari_qm31_batch_inverse_in_place),
-    || qm31_products("qm31_mul, a chain of 2^16 products", 1 << 16),
+    || chain("qm31_mul, a chain of 2^16 products", 1 << 16, 4, QM31::of, |x, y| x * y, qm31_mul),
+    || chain("point_add, a chain of 2^16 sums", 1 << 16, 2, point, called_add, point_add),
+    || chain("secure_point_add, a chain of 2^16 sums", 1 << 16, 8, point, |x, y| x + y, secure_point_add),
+    || doublings("point_repeated_double, 2^16 sums", 1 << 16),
+    || to_point("index_to_point, 2^16 indices", 1 << 16),
 ];
 
 /// The library may take a tenth longer than the Rust.
 const LIMIT: f64 = 1.10;
+
+/// The library has a table where the Rust doubles and adds.
+const TABLE_LIMIT: f64 = 0.50;
 
 type BatchInverse = unsafe extern "C" fn(*const u32, u64, *mut u32, u64) -> tari_write_reply;
 
@@ -39,27 +48,109 @@ fn batch_inverse<T: Element>(what: &'static str, n: usize, call: BatchInverse) -
     Row { what, rust, library, limit: LIMIT, equal: words_of(&rust_dst) == dst }
 }
 
-/// x, xy, xyy and so on: each product waits for the one before it.
-fn qm31_products(what: &'static str, n: usize) -> Row {
-    let words: [u32; 8] = drawn(what, 8).try_into().unwrap();
-    let (mut rust_last, mut last) = (QM31::default(), [0; 4]);
+/// x, xy, xyy and so on: each step waits for the one before it. `of` makes x and y, of so many words each. The
+/// library's side carries a `T` too: an array of two words would be read from the reply as one number, which is slow
+/// just after two stores.
+fn chain<T: Copy + PartialEq>(
+    what: &'static str,
+    n: usize,
+    width: usize,
+    of: fn(&[u32]) -> T,
+    rust_step: impl Fn(T, T) -> T,
+    step: impl Fn(T, T) -> T,
+) -> Row {
+    let words = drawn(what, 2 * width);
+    let (x, y) = (of(&words[..width]), of(&words[width..]));
+    let (mut rust_last, mut last) = (x, x);
     let (rust, library) = best(
         n,
         || {
-            let words = black_box(words);
-            let (x, y) = (QM31::of(&words[..4]), QM31::of(&words[4..]));
-            rust_last = black_box((0..n).fold(x, |x, _| x * y));
+            let (x, y) = black_box((x, y));
+            rust_last = black_box((0..n).fold(x, |x, _| rust_step(x, y)));
         },
         || {
-            let [a0, a1, a2, a3, b0, b1, b2, b3] = black_box(words);
-            let product = |[a0, a1, a2, a3]: [u32; 4], _| {
-                let reply = unsafe { tari_qm31_mul(a0, a1, a2, a3, b0, b1, b2, b3) };
-                [reply.a, reply.b, reply.c, reply.d]
-            };
-            last = black_box((0..n).fold([a0, a1, a2, a3], product));
+            let (x, y) = black_box((x, y));
+            last = black_box((0..n).fold(x, |x, _| step(x, y)));
         },
     );
-    Row { what, rust, library, limit: LIMIT, equal: rust_last.words() == last }
+    Row { what, rust, library, limit: LIMIT, equal: rust_last == last }
+}
+
+fn qm31_mul(x: QM31, y: QM31) -> QM31 {
+    let ([a0, a1, a2, a3], [b0, b1, b2, b3]) = (words(x), words(y));
+    let reply = unsafe { tari_qm31_mul(a0, a1, a2, a3, b0, b1, b2, b3) };
+    QM31::from_u32_unchecked(reply.a, reply.b, reply.c, reply.d)
+}
+
+fn point_add(a: CirclePoint<M31>, b: CirclePoint<M31>) -> CirclePoint<M31> {
+    let reply = unsafe { tari_point_add(a.x.0, a.y.0, b.x.0, b.y.0) };
+    CirclePoint { x: M31(reply.x), y: M31(reply.y) }
+}
+
+/// The Rust's sum behind a call and a reply like the library's: without them the sum is shorter than a call.
+#[inline(never)]
+extern "C" fn rust_point_add(ax: u32, ay: u32, bx: u32, by: u32) -> tari_point_reply {
+    let sum = CirclePoint { x: M31(ax), y: M31(ay) } + CirclePoint { x: M31(bx), y: M31(by) };
+    tari_point_reply { number: 0, position: 0, x: sum.x.0, y: sum.y.0 }
+}
+
+fn called_add(a: CirclePoint<M31>, b: CirclePoint<M31>) -> CirclePoint<M31> {
+    let reply = rust_point_add(a.x.0, a.y.0, b.x.0, b.y.0);
+    CirclePoint { x: M31(reply.x), y: M31(reply.y) }
+}
+
+/// One call: p + p, n times, each sum of the one before.
+fn doublings(what: &'static str, n: u32) -> Row {
+    let start = point::<M31>(&drawn(what, 2));
+    let (mut rust_last, mut last) = (start, start);
+    let (rust, library) = best(
+        n as usize,
+        || rust_last = black_box(black_box(start).repeated_double(n)),
+        || {
+            let start = black_box(start);
+            let reply = unsafe { tari_point_repeated_double(start.x.0, start.y.0, n) };
+            last = CirclePoint { x: M31(reply.x), y: M31(reply.y) };
+        },
+    );
+    Row { what, rust, library, limit: LIMIT, equal: rust_last == last }
+}
+
+fn secure_point_add(a: CirclePoint<QM31>, b: CirclePoint<QM31>) -> CirclePoint<QM31> {
+    let ([a0, a1, a2, a3], [a4, a5, a6, a7]) = (words(a.x), words(a.y));
+    let ([b0, b1, b2, b3], [b4, b5, b6, b7]) = (words(b.x), words(b.y));
+    let reply = unsafe { tari_secure_point_add(a0, a1, a2, a3, a4, a5, a6, a7, b0, b1, b2, b3, b4, b5, b6, b7) };
+    CirclePoint {
+        x: QM31::from_u32_unchecked(reply.x0, reply.x1, reply.x2, reply.x3),
+        y: QM31::from_u32_unchecked(reply.y0, reply.y1, reply.y2, reply.y3),
+    }
+}
+
+fn words(x: QM31) -> [u32; 4] {
+    x.to_m31_array().map(|word| word.0)
+}
+
+/// The points of indices below 2^31.
+fn to_point(what: &'static str, n: usize) -> Row {
+    let mut random = Random::new(1, what);
+    let indices: Vec<u64> = (0..n).map(|_| random.below(1 << 31)).collect();
+    let mut rust_points = vec![CirclePoint::<M31>::zero(); n];
+    let mut points = vec![[0; 2]; n];
+    let (rust, library) = best(
+        n,
+        || {
+            for (index, point) in black_box(&indices).iter().zip(black_box(&mut rust_points)) {
+                *point = CirclePointIndex(*index as usize).to_point();
+            }
+        },
+        || {
+            for (index, point) in black_box(&indices).iter().zip(black_box(&mut points)) {
+                let reply = unsafe { tari_index_to_point(*index) };
+                *point = [reply.x, reply.y];
+            }
+        },
+    );
+    let equal = rust_points.iter().flat_map(point_words).eq(points.concat());
+    Row { what, rust, library, limit: TABLE_LIMIT, equal }
 }
 
 /// Words from 1 to P - 1.

@@ -1,21 +1,10 @@
-use Prim.Native.Nat.{ℕ, zero, suc, _-_, _<_, _^_}
-use mathlib.Core.Path.{_≡_, refl, ap}
-use native.Mathlib.Nat.{zero-add}
+use Prim.Native.Nat.{_-_}
 use native.Mathlib.Omega.{arith}
 use borrow.Author.Needs.{needs}
-use lib.IntN.{pos, negsuc, _-ℤ_}
 use mir.Syntax.{w32}
-use mir.Val.{SFits, toZ}
-use mir.Facts.{toZ-ofZ}
+use Rattle.replay.proofs.Signed.{minus-one-fits}
 use Rattle.replay.proofs.values.signed.Statement.{statement}
 use Rattle.replay.proofs.values.signed.Tie as tie
-
-minus-one-less : (n : ℕ) → negsuc 0 -ℤ pos n ≡ negsuc n
-minus-one-less zero = refl
-minus-one-less (suc n) = ap (λ (t : ℕ). negsuc (suc t)) (zero-add n)
-
-minus-one-fits : (n : ℕ) → n < 2 ^ 31 → SFits w32 (negsuc 0 -ℤ toZ w32 n)
-minus-one-fits n h = rw (toZ-ofZ {w = w32} {z = pos n} (record { sfits = h }), minus-one-less n) (record { sfits = h })
 
 cast-result : tie.Need-cast-result
 cast-result c = search needs
@@ -33,7 +22,7 @@ cast-below : tie.Need-cast-below
 cast-below c = search needs
 
 sub-result : tie.Need-sub-result
-sub-result c = minus-one-fits (18446744073709551615 - c .before .before .args .x) (omega arith)
+sub-result c = minus-one-fits w32 (18446744073709551615 - c .before .before .args .x) (omega arith)
 
 returns-3 : tie.Need-returns-3
 returns-3 c = search needs

@@ -1,0 +1,66 @@
+-- An index by its digits, lowest first: the sum of the points of the digits seen is the point of the number they make.
+use Prim.Native.Nat.{ℕ, suc, _+_, _*_, _/_, _%_, _^_, _≤_, _<_}
+use mathlib.Core.Path.{_≡_, sym, _∙_, ap, ap₂}
+use native.Mathlib.Nat as N
+use native.Mathlib.Decide.{ℕ-discrete}
+use native.Mathlib.Omega.{arith}
+use lib.Arith.{mod-mul}
+use lib.Dec.{lit<}
+use lib.Pow.{pow-lt}
+use Rattle.algebra.specs.M31.{m31}
+use Rattle.algebra.specs.Circle.{plus, zeroPoint, multiple}
+use Rattle.fields.specs.Words.{words31}
+use Rattle.fields.specs.Inverse.{m31-representation}
+use Rattle.circle.specs.Point.{generator}
+use Rattle.circle.specs.Index.{indexPoint}
+use Rattle.circle.specs.Points.{multiple-add}
+use Rattle.circle.specs.Table.{windows, digits, entry}
+use Rattle.circle.specs.TableRule.{last-digit}
+
+power-pos : (w : ℕ) → 0 < digits ^ w
+power-pos w = N.one-le-pow w digits (lit< tt)
+
+power-next : (w : ℕ) → digits ^ (w + 1) ≡ digits ^ w * digits
+power-next w = let e : w + 1 ≡ suc w = omega arith in ap (λ (n : ℕ). digits ^ n) e ∙ N.pow-suc digits w
+
+-- one digit more
+low-digits : (k w : ℕ) → k % digits ^ (w + 1) ≡ k % digits ^ w + k / digits ^ w % digits * digits ^ w
+low-digits k w =
+    ap (λ (n : ℕ). k % n) (power-next w ∙ N.mul-comm (digits ^ w) digits) ∙ mod-mul k (lit< tt) (power-pos w)
+    ∙ N.add-comm (k / digits ^ w % digits * digits ^ w) (k % digits ^ w)
+
+-- before the first digit
+pub rest-start : (k : ℕ) → k ≡ k / digits ^ 0
+rest-start k = omega arith
+
+pub sum-start : (k : ℕ) → zeroPoint words31 ≡ indexPoint (k % digits ^ 0)
+unfolding multiple
+sum-start k = let e : 0 ≡ k % digits ^ 0 = omega arith in ap indexPoint e
+
+pub rest-next : (k w rest : ℕ) → rest ≡ k / digits ^ w → rest / digits ≡ k / digits ^ (w + 1)
+rest-next k w rest e =
+    ap (λ (n : ℕ). n / digits) e ∙ N.div-div-eq-div-mul k (digits ^ w) digits ∙ ap (λ (n : ℕ). k / n) (sym (power-next w))
+
+pub sum-next : (k w rest : ℕ) (sum next point : ℕ × ℕ) → rest ≡ k / digits ^ w → sum ≡ indexPoint (k % digits ^ w) → point ≡ entry w (rest % digits)
+    → next ≡ plus words31 sum point → next ≡ indexPoint (k % digits ^ (w + 1))
+sum-next k w rest sum next point e s p n =
+    n ∙ ap₂ (plus words31) s (p ∙ ap (λ (r : ℕ). entry w (r % digits)) e)
+    ∙ sym (multiple-add words31 m31 m31-representation (k % digits ^ w) (k / digits ^ w % digits * digits ^ w) generator)
+    ∙ ap indexPoint (sym (low-digits k w))
+
+-- after the last digit
+pub sum-end : (k w : ℕ) → k < 2 ^ 31 → w ≡ windows → indexPoint (k % digits ^ w) ≡ indexPoint k
+sum-end k w h e = let f : k % digits ^ windows ≡ k = omega arith in ap (λ (n : ℕ). indexPoint (k % digits ^ n)) e ∙ ap indexPoint f
+
+-- a digit in its place is at most the number
+pub digit-below : (k w rest : ℕ) → k < 2 ^ 31 → rest ≡ k / digits ^ w → rest % digits * digits ^ w < 2 ^ 31
+digit-below k w rest h e =
+    omega (arith, ap (λ (r : ℕ). r % digits * digits ^ w) e, low-digits k w, N.div-add-mod' k (digits ^ (w + 1)))
+
+-- the place of an entry in the table
+pub in-table : (w d : ℕ) → w < windows → d < digits → d * digits ^ w < 2 ^ 31 → 2 * (digits * w + d) + 1 < 1792
+in-table w d l h k = elim (ℕ-discrete w 3) [ yes e ↦ omega (arith, last-digit w d k e) | no n ↦ omega arith ]
+
+-- a shift of 1 within a word
+pub power-of-two : (n : ℕ) → n ≤ 31 → 1 * 2 ^ n % 2 ^ 64 ≡ 2 ^ n
+power-of-two n h = ap (λ (m : ℕ). m % 2 ^ 64) (N.one-mul (2 ^ n)) ∙ N.mod-eq-of-lt (pow-lt {i = n} {j = 64} (omega arith))

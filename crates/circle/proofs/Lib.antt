@@ -1,0 +1,5 @@
+pub mod Answers
+pub mod Scalars
+pub mod Digits
+pub mod Wrapping
+pub mod Order

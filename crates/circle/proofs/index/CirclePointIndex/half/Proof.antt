@@ -1,0 +1,21 @@
+use borrow.Author.Needs.{needs}
+use Rattle.circle.specs.Index.{halfAnswer}
+use Rattle.fields.proofs.Answers.{answers}
+use Rattle.circle.proofs.Answers.{indices}
+use Rattle.circle.proofs.index.CirclePointIndex.half.Statement.{statement}
+use Rattle.circle.proofs.index.CirclePointIndex.half.Tie as tie
+
+returns : tie.Need-returns
+unfolding halfAnswer
+returns c = search (answers, indices, needs)
+
+returns-2 : tie.Need-returns-2
+unfolding halfAnswer
+returns-2 c = search (answers, indices, needs)
+
+returns-3 : tie.Need-returns-3
+unfolding halfAnswer
+returns-3 c = search (answers, indices, needs)
+
+pub half-spec : {M : Type 1} → statement M
+half-spec = tie.close (tie.spec returns returns-2 returns-3)

@@ -1,0 +1,30 @@
+use borrow.Author.Needs.{needs}
+use Rattle.circle.specs.Index.{subAnswer}
+use Rattle.fields.proofs.Answers.{answers}
+use Rattle.circle.proofs.Answers.{indices}
+use Rattle.circle.proofs.index.CirclePointIndex.sub.Statement.{statement}
+use Rattle.circle.proofs.index.CirclePointIndex.sub.Tie as tie
+
+returns : tie.Need-returns
+unfolding subAnswer
+returns c = search (answers, indices, needs)
+
+returns-2 : tie.Need-returns-2
+unfolding subAnswer
+returns-2 c = search (answers, indices, needs)
+
+add-reduce : tie.Need-add-reduce
+add-reduce c = search needs
+
+sub-reduce : tie.Need-sub-reduce
+sub-reduce c = search needs
+
+reduce-requires : tie.Need-reduce-requires
+reduce-requires c κs = search needs
+
+returns-3 : tie.Need-returns-3
+unfolding subAnswer
+returns-3 c = search (answers, indices, needs)
+
+pub sub-spec : {M : Type 1} → statement M
+sub-spec = tie.close (tie.spec returns returns-2 add-reduce sub-reduce reduce-requires returns-3)

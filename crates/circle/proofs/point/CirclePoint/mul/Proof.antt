@@ -1,0 +1,23 @@
+use borrow.Author.Needs.{needs}
+use Rattle.circle.specs.Point.{mulAnswer}
+use Rattle.fields.proofs.Answers.{answers}
+use Rattle.circle.proofs.Answers.{points}
+use Rattle.circle.proofs.point.CirclePoint.mul.Statement.{statement}
+use Rattle.circle.proofs.point.CirclePoint.mul.Tie as tie
+
+is-reduced-requires : tie.Need-is-reduced-requires
+is-reduced-requires c κs = search needs
+
+returns : tie.Need-returns
+unfolding mulAnswer
+returns c = search (answers, points, needs)
+
+mul-requires : tie.Need-mul-requires
+mul-requires c κs = search (answers, points, needs)
+
+returns-2 : tie.Need-returns-2
+unfolding mulAnswer
+returns-2 c = search (answers, points, needs)
+
+pub mul-spec : {M : Type 1} → statement M
+mul-spec = tie.close (tie.spec is-reduced-requires returns mul-requires returns-2)

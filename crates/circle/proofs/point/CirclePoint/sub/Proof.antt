@@ -1,0 +1,48 @@
+use mathlib.Core.Path.{_∙_, ap}
+use Rattle.algebra.specs.Circle.{plus}
+use Rattle.fields.specs.Words.{words31}
+use Rattle.circle.specs.Point.{pointOf}
+use borrow.Author.Needs.{needs}
+use Rattle.circle.specs.Point.{subAnswer}
+use Rattle.fields.proofs.Answers.{answers}
+use Rattle.circle.proofs.Answers.{points}
+use Rattle.circle.proofs.point.CirclePoint.sub.Statement.{statement}
+use Rattle.circle.proofs.point.CirclePoint.sub.Tie as tie
+
+is-reduced-requires : tie.Need-is-reduced-requires
+is-reduced-requires c κs = search needs
+
+returns : tie.Need-returns
+unfolding subAnswer
+returns c = search (answers, points, needs)
+
+is-reduced-requires-2 : tie.Need-is-reduced-requires-2
+is-reduced-requires-2 c κs = search needs
+
+returns-2 : tie.Need-returns-2
+unfolding subAnswer
+returns-2 c = search (answers, points, needs)
+
+conjugate-requires : tie.Need-conjugate-requires
+conjugate-requires c κs = search (answers, points, needs)
+
+add-requires : tie.Need-add-requires
+add-requires c κs = search (answers, points, needs)
+
+returns-3 : tie.Need-returns-3
+unfolding subAnswer
+returns-3 c =
+    let e = c .add .ensures .0 ∙ ap (plus words31 (pointOf (c .before .before .before .before .before .before .args .self))) (c .before .conjugate .ensures .0) in
+    search (answers, points, needs)
+
+pub sub-spec : {M : Type 1} → statement M
+sub-spec =
+    tie.close
+    (tie.spec
+    is-reduced-requires
+    returns
+    is-reduced-requires-2
+    returns-2
+    conjugate-requires
+    add-requires
+    returns-3)

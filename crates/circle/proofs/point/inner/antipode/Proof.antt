@@ -1,0 +1,16 @@
+use Rattle.fields.proofs.Pairs.{pair}
+use borrow.Author.Needs.{needs}
+use Rattle.circle.proofs.point.inner.antipode.Statement.{statement}
+use Rattle.circle.proofs.point.inner.antipode.Tie as tie
+
+neg-requires : tie.Need-neg-requires
+neg-requires c κs = search needs
+
+neg-requires-2 : tie.Need-neg-requires-2
+neg-requires-2 c κs = search needs
+
+returns : tie.Need-returns
+returns c = (pair (search needs) (search needs), (search needs, search needs))
+
+pub antipode-spec : {M : Type 1} → statement M
+antipode-spec = tie.close (tie.spec neg-requires neg-requires-2 returns)

@@ -1,0 +1,13 @@
+use Rattle.fields.proofs.Pairs.{pair}
+use borrow.Author.Needs.{needs}
+use Rattle.circle.proofs.point.inner.conjugate.Statement.{statement}
+use Rattle.circle.proofs.point.inner.conjugate.Tie as tie
+
+neg-requires : tie.Need-neg-requires
+neg-requires c κs = search needs
+
+returns : tie.Need-returns
+returns c = (pair (search needs) (search needs), (search needs, search needs))
+
+pub conjugate-spec : {M : Type 1} → statement M
+conjugate-spec = tie.close (tie.spec neg-requires returns)

@@ -1,0 +1,23 @@
+use borrow.Author.Needs.{needs}
+use Rattle.circle.specs.SecurePoint.{antipodeAnswer}
+use Rattle.fields.proofs.Answers.{answers}
+use Rattle.circle.proofs.Answers.{securePoints}
+use Rattle.circle.proofs.secure_point.SecureCirclePoint.antipode.Statement.{statement}
+use Rattle.circle.proofs.secure_point.SecureCirclePoint.antipode.Tie as tie
+
+is-reduced-requires : tie.Need-is-reduced-requires
+is-reduced-requires c κs = search needs
+
+returns : tie.Need-returns
+unfolding antipodeAnswer
+returns c = search (answers, securePoints, needs)
+
+antipode-requires : tie.Need-antipode-requires
+antipode-requires c κs = search (answers, securePoints, needs)
+
+returns-2 : tie.Need-returns-2
+unfolding antipodeAnswer
+returns-2 c = search (answers, securePoints, needs)
+
+pub antipode-spec : {M : Type 1} → statement M
+antipode-spec = tie.close (tie.spec is-reduced-requires returns antipode-requires returns-2)

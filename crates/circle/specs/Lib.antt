@@ -1,0 +1,9 @@
+pub mod Formulas
+pub mod Point
+pub mod SecurePoint
+pub mod Index
+pub mod Table
+pub mod Points
+pub mod IndexPoints
+pub mod LogOrder
+pub mod TableRule

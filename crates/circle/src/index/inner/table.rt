@@ -1,0 +1,47 @@
+// The constant table of points by windows of digits: window w, digit d has the point (d 256^w) G.
+ghost use mathlib.Core.Path.{_≡_};
+ghost use Prim.Native.Nat.{_*_, _^_, _<_};
+ghost use Rattle.circle.specs.Point.{pointOf, Reduced};
+ghost use Rattle.circle.specs.Index.{indexPoint};
+ghost use Rattle.circle.specs.Table.{windows, digits, entry};
+use crate::index::inner::table::rows::POINTS;
+use crate::point::CirclePoint;
+use crate::point::inner as point;
+use fields::m31::M31;
+
+mod rows;
+
+const WINDOWS: usize = 4;
+
+// digits of a window; the last one ends where indices do, at 2^31
+const DIGITS: usize = 256;
+
+// The point of a digit of a window.
+fn entry(window: usize, digit: usize) -> CirclePoint
+    requires { ⌜ (window < windows) × (digit < digits) × (digit * digits ^ window < 2 ^ 31) ⌝ }
+    ensures { λ r. ⌜ (pointOf r ≡ entry window digit) × Reduced r ⌝ }
+{
+    let at = DIGITS * window + digit;
+    let row = rows::row(at / POINTS);
+    let place = 2 * (at % POINTS);
+    CirclePoint {
+        x: M31(row[place]),
+        y: M31(row[place + 1]),
+    }
+}
+
+// The point of an index below 2^31: the sum of the points of its digits.
+pub fn look_up(k: u64) -> CirclePoint
+    requires { ⌜ k < 2 ^ 31 ⌝ }
+    ensures { λ r. ⌜ (pointOf r ≡ indexPoint k) × Reduced r ⌝ }
+{
+    let mut sum = CirclePoint::zero();
+    let mut rest = k as usize;
+    let mut window: usize = 0;
+    while window < WINDOWS {
+        sum = point::add(sum, entry(window, rest % DIGITS));
+        rest = rest / DIGITS;
+        window += 1;
+    }
+    sum
+}
