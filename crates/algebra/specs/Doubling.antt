@@ -1,5 +1,5 @@
 -- Repeated doubling, of points and of an x alone: a point of the circle over M31 reaches zero in at most 31 doublings.
-use Prim.Native.Nat.{ℕ, zero, suc, _*_, _^_}
+use Prim.Native.Nat.{ℕ, zero, suc, _^_}
 use mathlib.Core.Path.{_≡_, refl, sym, _∙_, ap}
 use mathlib.Core.List.{[], _∷_}
 use native.Mathlib.Nat as N

@@ -14,7 +14,7 @@ use Rattle.algebra.specs.Doubling.{iterate, double, on-doublings, doublings-x, 
 use Rattle.fields.specs.Words.{words31}
 use Rattle.fields.specs.Elements.{element-homomorphism}
 use Rattle.fields.specs.Inverse.{m31-representation}
-use Rattle.fields.specs.Batch.{first}
+use Rattle.fields.specs.Search.{first}
 use Rattle.circle.specs.Point.{isZero, logOrder}
 use Rattle.circle.specs.Points.{PointReduced, point-injective, doublings-reduced}
 

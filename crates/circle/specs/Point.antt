@@ -10,7 +10,7 @@ use Rattle.algebra.specs.Doubling.{iterate, double}
 use Rattle.fields.specs.Words.{words31}
 use Rattle.fields.specs.M31.{ofWord}
 use Rattle.fields.specs.M31 as F
-use Rattle.fields.specs.Batch.{first}
+use Rattle.fields.specs.Search.{first}
 use Rattle.fields.specs.declared.m31.M31.{M31}
 use Rattle.fields.specs.declared.m31.M31Answer.{M31Answer}
 use Rattle.fields.specs.declared.m31.M31Answer.the-variants as M

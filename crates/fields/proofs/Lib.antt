@@ -2,9 +2,5 @@ pub mod Answers
 pub mod Reductions
 pub mod Powers
 pub mod Pairs
-pub mod Montgomery
-pub mod Units
 pub mod Search
-pub mod Batches
-pub mod Invertible
 pub mod Wide

@@ -5,7 +5,7 @@ use mathlib.Core.Bool.{Bool, true, false, cond}
 use native.Mathlib.Nat as N
 use native.Mathlib.Decide.{decLt}
 use native.Mathlib.Omega.{arith}
-use Rattle.fields.specs.Batch.{first}
+use Rattle.fields.specs.Search.{first}
 
 -- the test holds nowhere below k
 pub record None (test : ℕ → Bool) (k : ℕ) : Type 0 where
@@ -49,3 +49,13 @@ nowhere test (suc n) h (suc j) l =
 -- nothing is found only where there is nothing
 pub none-found : (test : ℕ → Bool) (n : ℕ) → n ≤ first test n → None test n
 none-found test n h = record { none = nowhere test n h }
+
+found-next : (test : ℕ → Bool) (m n : ℕ) (t : Bool) → test 0 ≡ t → (m < n → test (suc m) ≡ true) → cond t 0 (suc m) < suc n → test (cond t 0 (suc m)) ≡ true
+found-next test m n true e rest h = e
+found-next test m n false e rest h = rest (N.le-of-suc-le-suc h)
+
+-- the test holds where something is found
+pub found : (test : ℕ → Bool) (n : ℕ) → first test n < n → test (first test n) ≡ true
+unfolding first
+found test zero h = absurd (N.not-suc-le-zero h)
+found test (suc n) h = found-next test (first (λ k. test (suc k)) n) n (test 0) refl (found (λ k. test (suc k)) n) h

@@ -1,6 +1,5 @@
 // The fields (stwo's core/fields): M31, CM31 and QM31, and what every layer shares: refusals, answers, signed numbers.
 pub mod answer;
-pub mod batch;
 pub mod cm31;
 pub mod m31;
 pub mod qm31;

@@ -1,5 +1,5 @@
 // Replays the recorded answers of data/ through the C entry points, and prints how many came out as recorded.
-mod batch;
+mod batch_inverse;
 mod cm31;
 mod index;
 mod line;
@@ -8,6 +8,7 @@ mod point;
 mod qm31;
 mod row;
 mod secure_point;
+mod slices;
 mod values;
 
 // Whose functions the lines of a file name; the prefix of a name as m31_add_cm31 does not tell.
@@ -44,7 +45,7 @@ fn called(which: Module, name: &[u8], row: row::Row) -> row::Reply {
         Module::M31 => m31::called(name, row),
         Module::CM31 => cm31::called(name, row),
         Module::QM31 => qm31::called(name, row),
-        Module::Batch => batch::called(name, row),
+        Module::Batch => batch_inverse::called(name, row),
         Module::Point => point::called(name, row),
         Module::SecurePoint => secure_point::called(name, row),
         Module::Index => index::called(name, row),

@@ -1,5 +1,5 @@
 // The C interface: numbers and slices in, one struct of numbers out. include/taripomune.h declares it for C.
-pub mod batch;
+pub mod batch_inverse;
 pub mod cm31;
 pub mod index;
 pub mod m31;

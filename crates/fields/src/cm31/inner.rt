@@ -14,8 +14,6 @@ use crate::m31::P;
 use crate::m31::P_SQUARED;
 use crate::m31::inner as m31;
 
-pub mod batch;
-
 pub fn is_reduced(a: CM31) -> bool
     ensures { λ r. ⌜ r ≡ reduced a ⌝ }
 {

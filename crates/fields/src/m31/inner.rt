@@ -6,8 +6,6 @@ ghost use Rattle.algebra.specs.M31.{P};
 ghost use Rattle.fields.specs.Words.{addP, subP, negP, mulP, powP};
 use crate::m31::P;
 
-pub mod batch;
-
 // 2^31 is 1 modulo P, so the bits from 31 on are added to those below.
 const TWO_POW_31: u32 = 2147483648;
 

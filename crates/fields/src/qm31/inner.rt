@@ -17,8 +17,6 @@ use crate::m31::P_SQUARED;
 use crate::m31::inner as m31;
 use crate::qm31::QM31;
 
-pub mod batch;
-
 const P_U64: u64 = 2147483647;
 
 const TWO_P_SQUARED: u64 = 9223372028264841218;

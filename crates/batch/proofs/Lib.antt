@@ -1,0 +1,4 @@
+pub mod Montgomery
+pub mod Units
+pub mod Batches
+pub mod Invertible

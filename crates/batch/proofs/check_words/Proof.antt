@@ -1,0 +1,31 @@
+use mathlib.Core.Path.{sym, _∙_, ap}
+use borrow.Author.Needs.{needs}
+use Rattle.batch.specs.Batch.{columnOf, wordsAnswer}
+use Rattle.batch.specs.declared.Field.{Field}
+use Rattle.batch.proofs.check_words.Statement.{statement}
+use Rattle.batch.proofs.check_words.Tie as tie
+
+enum-told : tie.Need-enum-told
+enum-told c = search needs
+
+all-invertible-requires : tie.Need-all-invertible-requires
+all-invertible-requires c κs = search needs
+
+returns : tie.Need-returns
+unfolding columnOf
+returns c = sym (c .before .all-invertible .ensures (c .if1 .taken)) ∙ ap (λ (f : Field). wordsAnswer (columnOf f) (c .before .before .before .before .before .args .column .now)) (sym (c .before .before .enum-told .given .1))
+
+search-words-requires : tie.Need-search-words-requires
+search-words-requires c κs = search needs
+
+search-words-requires-2 : tie.Need-search-words-requires-2
+search-words-requires-2 c κs = search needs
+
+returns-2 : tie.Need-returns-2
+returns-2 c = c .search-words .ensures
+
+returns-3 : tie.Need-returns-3
+returns-3 c = c .search-words2 .ensures
+
+pub check-words-spec : {M : Type 1} → statement M
+check-words-spec = tie.close (tie.spec enum-told all-invertible-requires returns search-words-requires search-words-requires-2 returns-2 returns-3)

@@ -1,0 +1,99 @@
+-- Batch inversion, for any field: element k of the destination becomes the inverse of element k of the column.
+use Prim.Native.Nat.{ℕ, zero, suc, _+_, _*_, _/_, _%_}
+use mathlib.Core.Bool.{Bool, cond, _&&_}
+use mathlib.Core.List.{List}
+use lib.Dec.{leb, ltb, eqb}
+use lib.ListN.{length, getD, set}
+use Rattle.algebra.specs.M31.{P}
+use Rattle.fields.specs.Words.{invP, complexInverse, quarticInverse}
+use Rattle.fields.specs.Search.{first}
+use Rattle.batch.specs.declared.Field.{Field}
+use Rattle.batch.specs.declared.Field.the-variants as F
+use Rattle.fields.specs.declared.answer.WriteAnswer.{WriteAnswer}
+use Rattle.fields.specs.declared.answer.WriteAnswer.the-variants.{Written, Refused}
+use Rattle.fields.specs.declared.refusal.Refusal.the-variants.{Length, Chunk, Word, Inverse}
+
+-- How an element lies in a column: so many words, read and written from a word on.
+pub record Layout : Type 1 where
+  pub El : Type 0
+  pub width : ℕ
+  pub read : List ℕ → ℕ → El
+  pub write : List ℕ → ℕ → El → List ℕ
+
+-- one word
+abbrev pub wordLayout : Layout
+wordLayout = record { El = ℕ; width = 1; read = λ column at. getD column at 0; write = set }
+
+-- two elements, one after the other
+abbrev pub pairLayout : Layout → Layout
+pairLayout L = record {
+  El = L .El × L .El;
+  width = L .width + L .width;
+  read = λ column at. (L .read column at, L .read column (at + L .width));
+  write = λ column at p. L .write (L .write column at (p .0)) (at + L .width) (p .1);
+}
+
+-- a field whose elements lie in columns
+pub record ColumnField : Type 1 where
+  pub layout : Layout
+  pub inverse : layout .El → layout .El
+  pub isZero : layout .El → Bool
+
+-- M31: 1 word an element
+abbrev pub m31Column : ColumnField
+m31Column = record { layout = wordLayout; inverse = invP; isZero = λ a. eqb a 0 }
+
+-- CM31: 2 words, a and b of a + bi
+abbrev pub cm31Column : ColumnField
+cm31Column = record { layout = pairLayout wordLayout; inverse = complexInverse; isZero = λ p. eqb (p .0) 0 && eqb (p .1) 0 }
+
+-- QM31: 4 words, those of p and then of q in p + qu
+abbrev pub qm31Column : ColumnField
+qm31Column = record {
+  layout = pairLayout (pairLayout wordLayout);
+  inverse = quarticInverse;
+  isZero = λ p. eqb (p .0 .0) 0 && eqb (p .0 .1) 0 && (eqb (p .1 .0) 0 && eqb (p .1 .1) 0);
+}
+
+unfoldable pub columnOf : Field → ColumnField
+columnOf F.M31 = m31Column
+columnOf F.CM31 = cm31Column
+columnOf F.QM31 = qm31Column
+
+-- dst with its first n elements replaced by the inverses of the column's, the other words as they were
+unfoldable pub inverted : (L : Layout) → (L .El → L .El) → ℕ → List ℕ → List ℕ → List ℕ
+inverted L inverse zero column dst = dst
+inverted L inverse (suc n) column dst = L .write (inverted L inverse n column dst) (n * L .width) (inverse (L .read column (n * L .width)))
+
+-- the position of the lowest word at or above P, the length where there is none
+abbrev pub firstBad : List ℕ → ℕ
+firstBad column = first (λ i. leb P (getD column i 0)) (length column)
+
+module _ (F : ColumnField) where
+  -- how many elements a column has
+  abbrev pub count : List ℕ → ℕ
+  count column = length column / F .layout .width
+
+  -- the place of the first zero element, the count where there is none
+  abbrev pub firstZero : List ℕ → ℕ
+  firstZero column = first (λ k. F .isZero (F .layout .read column (k * F .layout .width))) (count column)
+
+  -- whole numbers of elements, the destination no shorter than the column
+  abbrev pub lengthsFit : (column dst : ℕ) → Bool
+  lengthsFit column dst = eqb (column % F .layout .width) 0 && eqb (dst % F .layout .width) 0 && leb column dst
+
+  -- numbers 1 and 3
+  unfoldable pub wordsAnswer : List ℕ → WriteAnswer
+  wordsAnswer column =
+      cond (ltb (firstBad column) (length column)) (Refused (Word (firstBad column)))
+      (cond (ltb (firstZero column) (count column)) (Refused (Inverse (firstZero column))) Written)
+
+  -- numbers 8 and 9 before them; a call without chunks has chunk size 1 here
+  unfoldable pub batchAnswer : ℕ → List ℕ → ℕ → WriteAnswer
+  batchAnswer chunk column dst =
+      cond (lengthsFit (length column) dst) (cond (eqb chunk 0) (Refused Chunk) (wordsAnswer column)) (Refused Length)
+
+  -- what a call with this answer leaves in the destination
+  unfoldable pub batchExit : WriteAnswer → List ℕ → List ℕ → List ℕ
+  batchExit Written column dst = inverted (F .layout) (F .inverse) (count column) column dst
+  batchExit (Refused why) column dst = dst

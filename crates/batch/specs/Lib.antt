@@ -1,0 +1,6 @@
+-- definitions
+pub mod Batch
+-- laws
+pub mod Layouts
+pub mod Passes
+pub mod Lanes
