@@ -18,6 +18,7 @@ typedef struct { uint32_t number; uint64_t position; uint32_t x; uint32_t y; } t
 typedef struct { uint32_t number; uint64_t position; uint32_t x0; uint32_t x1; uint32_t x2; uint32_t x3; uint32_t y0; uint32_t y1; uint32_t y2; uint32_t y3; } tari_secure_point_reply;
 typedef struct { uint32_t number; uint64_t position; uint64_t index; } tari_index_reply;
 typedef struct { uint32_t number; uint64_t position; uint32_t value; } tari_u32_reply;
+typedef struct { uint32_t number; uint64_t position; uint64_t value; } tari_u64_reply;
 typedef struct { uint32_t number; uint64_t position; } tari_write_reply;
 
 /* M31: one word below P = 2147483647. */
@@ -151,5 +152,15 @@ tari_index_reply tari_index_add(uint64_t a, uint64_t b);
 tari_index_reply tari_index_sub(uint64_t a, uint64_t b);
 tari_index_reply tari_index_neg(uint64_t index);
 tari_index_reply tari_index_mul(uint64_t index, uint64_t count);
+
+/* Column orders: positions, and columns of any u32 words. */
+tari_u64_reply tari_bit_reverse_index(uint64_t i, uint32_t log_size);
+tari_write_reply tari_bit_reverse(uint32_t *v, uint64_t v_len);
+tari_u64_reply tari_offset_bit_reversed_circle_domain_index(uint64_t i, uint32_t domain_log_size, uint32_t eval_log_size, int64_t offset);
+tari_u64_reply tari_previous_bit_reversed_circle_domain_index(uint64_t i, uint32_t domain_log_size, uint32_t eval_log_size);
+tari_u64_reply tari_coset_index_to_circle_domain_index(uint64_t coset_index, uint32_t log_domain_size);
+tari_write_reply tari_bit_reverse_coset_to_circle_domain_order(uint32_t *v, uint64_t v_len);
+tari_write_reply tari_coset_order_to_circle_domain_order(const uint32_t *values, uint64_t values_len, uint32_t *dst, uint64_t dst_len);
+tari_write_reply tari_circle_domain_order_to_coset_order(const uint32_t *values, uint64_t values_len, uint32_t *dst, uint64_t dst_len);
 
 #endif

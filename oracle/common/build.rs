@@ -12,7 +12,6 @@ struct Variable {
     pointer: Option<Pointer>,
 }
 
-#[derive(PartialEq)]
 enum Pointer {
     Const,
     Mut,
@@ -146,9 +145,7 @@ fn functions(replies: &[Reply], prototypes: &[Prototype]) -> String {
 fn function(Prototype { name, parameters, .. }: &Prototype, reply: &Reply) -> String {
     let taken: String = parameters.iter().map(|parameter| taken(parameter, parameters)).collect();
     let passed: Vec<String> = parameters.iter().map(passed).collect();
-    let exits = parameters.iter().filter(|p| p.pointer == Some(Pointer::Mut));
-    let exits: String =
-        exits.map(|p| format!("values.extend(arg_{}.iter().map(|word| *word as u64)); ", p.name)).collect();
+    let exits: String = parameters.iter().map(exit).collect();
     let values: Vec<String> = reply.fields[2..].iter().map(|f| format!("reply.{} as u64", f.name)).collect();
     format!(
         "Function {{
@@ -177,18 +174,26 @@ fn function(Prototype { name, parameters, .. }: &Prototype, reply: &Reply) -> St
 fn taken(Variable { name, rust_type, pointer }: &Variable, parameters: &[Variable]) -> String {
     let slice = name.strip_suffix("_len").filter(|slice| parameters.iter().any(|p| p.name == *slice));
     let value = match (pointer, slice) {
-        (Some(_), _) => "args.slice()".to_string(),
+        (Some(_), _) => "Lent::new(args.slice())".to_string(),
         (None, Some(slice)) => format!("arg_{slice}.len() as {rust_type}"),
         (None, None) => "args.take()".to_string(),
     };
-    let variable_type = if pointer.is_some() { format!("Vec<{rust_type}>") } else { rust_type.to_string() };
+    let variable_type = if pointer.is_some() { "Lent" } else { rust_type };
     format!("let mut arg_{name}: {variable_type} = {value}; ")
 }
 
 fn passed(Variable { name, pointer, .. }: &Variable) -> String {
     match pointer {
         None => format!("arg_{name}"),
-        Some(Pointer::Const) => format!("arg_{name}.as_ptr()"),
-        Some(Pointer::Mut) => format!("arg_{name}.as_mut_ptr()"),
+        Some(_) => format!("arg_{name}.pointer()"),
+    }
+}
+
+/// Adds to the values what a slice is after the call.
+fn exit(Variable { name, pointer, .. }: &Variable) -> String {
+    match pointer {
+        None => String::new(),
+        Some(Pointer::Const) => format!("values.extend(arg_{name}.read()); "),
+        Some(Pointer::Mut) => format!("values.extend(arg_{name}.written()); "),
     }
 }

@@ -1,6 +1,7 @@
 // Replays the recorded answers of data/ through the C entry points, and prints how many came out as recorded.
 mod batch_inverse;
 mod cm31;
+mod column_orders;
 mod index;
 mod line;
 mod m31;
@@ -20,6 +21,7 @@ enum Module {
     Point,
     SecurePoint,
     Index,
+    Orders,
 }
 
 struct Tally {
@@ -49,6 +51,7 @@ fn called(which: Module, name: &[u8], row: row::Row) -> row::Reply {
         Module::Point => point::called(name, row),
         Module::SecurePoint => secure_point::called(name, row),
         Module::Index => index::called(name, row),
+        Module::Orders => column_orders::called(name, row),
     }
 }
 
@@ -117,4 +120,5 @@ fn main() {
     replay(Module::Point, b"point.txt");
     replay(Module::SecurePoint, b"secure_point.txt");
     replay(Module::Index, b"index.txt");
+    replay(Module::Orders, b"orders.txt");
 }

@@ -10,6 +10,7 @@ use taripomune::reply::PointReply;
 use taripomune::reply::QM31Reply;
 use taripomune::reply::SecurePointReply;
 use taripomune::reply::U32Reply;
+use taripomune::reply::U64Reply;
 use taripomune::reply::WriteReply;
 
 // A number as a u32; the largest where it is larger.
@@ -103,6 +104,10 @@ pub fn qm31(r: QM31Reply) -> Reply {
 
 pub fn count(r: U32Reply) -> Reply {
     with_word(reply_of(r.number, r.position), r.value)
+}
+
+pub fn position(r: U64Reply) -> Reply {
+    with_number(reply_of(r.number, r.position), r.value)
 }
 
 pub fn index(r: IndexReply) -> Reply {

@@ -14,6 +14,8 @@ use Rattle.fields.specs.declared.answer.BoolAnswer.{BoolAnswer}
 use Rattle.fields.specs.declared.answer.BoolAnswer.the-variants as B
 use Rattle.fields.specs.declared.answer.U32Answer.{U32Answer}
 use Rattle.fields.specs.declared.answer.U32Answer.the-variants as U
+use Rattle.fields.specs.declared.answer.U64Answer.{U64Answer}
+use Rattle.fields.specs.declared.answer.U64Answer.the-variants as L
 use Rattle.fields.specs.declared.answer.WriteAnswer.{WriteAnswer}
 use Rattle.fields.specs.declared.answer.WriteAnswer.the-variants as W
 use Rattle.circle.specs.declared.point.CirclePointAnswer.{CirclePointAnswer}
@@ -27,6 +29,7 @@ use Rattle.taripomune.specs.declared.reply.BoolReply.{BoolReply}
 use Rattle.taripomune.specs.declared.reply.CM31Reply.{CM31Reply}
 use Rattle.taripomune.specs.declared.reply.QM31Reply.{QM31Reply}
 use Rattle.taripomune.specs.declared.reply.U32Reply.{U32Reply}
+use Rattle.taripomune.specs.declared.reply.U64Reply.{U64Reply}
 use Rattle.taripomune.specs.declared.reply.PointReply.{PointReply}
 use Rattle.taripomune.specs.declared.reply.SecurePointReply.{SecurePointReply}
 use Rattle.taripomune.specs.declared.reply.IndexReply.{IndexReply}
@@ -47,6 +50,10 @@ boolReply (B.Refused why) = record { number = numberOf why; position = positionO
 unfoldable pub u32Reply : U32Answer → U32Reply
 u32Reply (U.Value value) = record { number = 0; position = 0; value = value }
 u32Reply (U.Refused why) = record { number = numberOf why; position = positionOf why; value = 0 }
+
+unfoldable pub u64Reply : U64Answer → U64Reply
+u64Reply (L.Value value) = record { number = 0; position = 0; value = value }
+u64Reply (L.Refused why) = record { number = numberOf why; position = positionOf why; value = 0 }
 
 -- the words of a + bi
 unfoldable pub cm31Reply : CM31Answer → CM31Reply

@@ -1,6 +1,7 @@
 // The C interface: numbers and slices in, one struct of numbers out. include/taripomune.h declares it for C.
 pub mod batch_inverse;
 pub mod cm31;
+pub mod column_orders;
 pub mod index;
 pub mod m31;
 pub mod point;

@@ -1,11 +1,12 @@
 // Replies: document 01's number (0: accepted) and position, then the values (0 on a refusal).
 ghost use mathlib.Core.Path.{_≡_};
-ghost use Rattle.taripomune.specs.Reply.{m31Reply, boolReply, u32Reply, cm31Reply, qm31Reply, arrayReply, pointReply, securePointReply, indexReply, writeReply};
+ghost use Rattle.taripomune.specs.Reply.{m31Reply, boolReply, u32Reply, u64Reply, cm31Reply, qm31Reply, arrayReply, pointReply, securePointReply, indexReply, writeReply};
 use circle::index::CirclePointIndexAnswer;
 use circle::point::CirclePointAnswer;
 use circle::secure_point::SecureCirclePointAnswer;
 use fields::answer::BoolAnswer;
 use fields::answer::U32Answer;
+use fields::answer::U64Answer;
 use fields::answer::WriteAnswer;
 use fields::cm31::CM31Answer;
 use fields::m31::M31Answer;
@@ -33,6 +34,14 @@ pub struct U32Reply {
     pub number: u32,
     pub position: u64,
     pub value: u32,
+}
+
+// a position
+#[repr(C)]
+pub struct U64Reply {
+    pub number: u32,
+    pub position: u64,
+    pub value: u64,
 }
 
 // the words of a + bi
@@ -137,6 +146,23 @@ pub fn u32_reply(answer: U32Answer) -> U32Reply
             value: value,
         },
         U32Answer::Refused(why) => U32Reply {
+            number: why.number(),
+            position: why.position(),
+            value: 0,
+        },
+    }
+}
+
+pub fn u64_reply(answer: U64Answer) -> U64Reply
+    ensures { λ r. ⌜ r ≡ u64Reply answer ⌝ }
+{
+    match answer {
+        U64Answer::Value(value) => U64Reply {
+            number: 0,
+            position: 0,
+            value: value,
+        },
+        U64Answer::Refused(why) => U64Reply {
             number: why.number(),
             position: why.position(),
             value: 0,

@@ -2,5 +2,6 @@
 
 pub mod args;
 pub mod element;
+pub mod lent;
 pub mod library;
 pub mod random;

@@ -3,6 +3,7 @@
 #![allow(non_camel_case_types, unused_variables, unused_mut)]
 
 use crate::args::{Answer, Args};
+use crate::lent::Lent;
 
 /// A function of the header.
 pub struct Function {

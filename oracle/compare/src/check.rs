@@ -6,11 +6,15 @@ use crate::kinds::first_refusal;
 use common::args::{Answer, Args};
 use common::library::Function;
 use common::random::Random;
+use std::fmt::Debug;
 use std::panic::{catch_unwind, AssertUnwindSafe};
 use std::process::exit;
 
 /// So many differing inputs of a function are printed.
 const SHOWN: usize = 5;
+
+/// So many numbers of an input or of an answer are printed.
+const NUMBERS: usize = 500;
 
 #[derive(Default)]
 pub struct Tally {
@@ -50,11 +54,23 @@ impl Tally {
             self.different += 1;
             if self.shown.len() < SHOWN && !self.shown.contains(&pair.numbers) {
                 self.shown.push(pair.numbers.clone());
-                println!("{} differs on {:?}", entry.name, pair.numbers);
-                println!("    expected {:?}", pair.expected);
-                println!("    library  {:?}", pair.library);
+                println!("{} differs on {}", entry.name, start(&pair.numbers));
+                println!("    expected {}", shown(&pair.expected));
+                println!("    library  {}", shown(&pair.library));
             }
         }
+    }
+}
+
+fn shown(Answer { number, position, values }: &Answer) -> String {
+    format!("number {number}, position {position}, values {}", start(values))
+}
+
+/// A list, or where it is long its start.
+fn start<T: Debug>(list: &[T]) -> String {
+    match list.len().saturating_sub(NUMBERS) {
+        0 => format!("{list:?}"),
+        more => format!("{:?} and {more} more", &list[..NUMBERS]),
     }
 }
 
@@ -73,7 +89,7 @@ pub fn answers(entry: &Entry, function: &Function, input: &Input) -> Pair {
 
 fn rust(entry: &Entry, numbers: &[i128]) -> Vec<u64> {
     catch_unwind(AssertUnwindSafe(|| with_all(numbers, entry.rust))).unwrap_or_else(|_| {
-        println!("{}: the Rust panics on {numbers:?}, which the entry's kinds accept", entry.name);
+        println!("{}: the Rust panics on {}, which the entry's kinds accept", entry.name, start(numbers));
         exit(1)
     })
 }

@@ -33,7 +33,7 @@ pub const fn chunked<const WIDTH: usize>() -> Kind {
 }
 
 /// The words of the column, those of the destination, and what follows.
-fn parts(numbers: &[i128]) -> (&[i128], &[i128], &[i128]) {
+pub fn parts(numbers: &[i128]) -> (&[i128], &[i128], &[i128]) {
     let (column, rest) = numbers[1..].split_at(numbers[0] as usize);
     let (dst, rest) = rest[1..].split_at(rest[0] as usize);
     (column, dst, rest)
@@ -98,7 +98,7 @@ fn written((column_len, dst_len, words, zeros): Case, width: usize) -> Vec<i128>
     joined(column, dst)
 }
 
-fn joined(column: Vec<i128>, dst: Vec<i128>) -> Vec<i128> {
+pub fn joined(column: Vec<i128>, dst: Vec<i128>) -> Vec<i128> {
     [vec![column.len() as i128], column, vec![dst.len() as i128], dst].concat()
 }
 
@@ -160,7 +160,7 @@ fn damage(column: &mut [i128], width: usize, random: &mut Random) {
     }
 }
 
-fn dst_len(column_len: usize, width: usize, random: &mut Random) -> usize {
+pub fn dst_len(column_len: usize, width: usize, random: &mut Random) -> usize {
     let more = 1 + random.below(9) as usize;
     match random.below(8) {
         0..=3 => column_len,

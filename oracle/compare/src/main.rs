@@ -10,6 +10,8 @@ mod index;
 mod inputs;
 mod kinds;
 mod m31;
+mod orders;
+mod orders_kinds;
 mod point;
 mod qm31;
 mod record;
@@ -32,6 +34,7 @@ const MODULES: &[(&str, &[Entry], usize)] = &[
     ("point", point::ENTRIES, 4_200),
     ("secure_point", secure_point::ENTRIES, 6_000),
     ("index", index::ENTRIES, 4_200),
+    ("orders", orders::ENTRIES, 8_000),
 ];
 
 /// `replay` reads shorter files only.
@@ -74,7 +77,7 @@ fn read_options() -> Result<Options, String> {
 fn run(options: Options) -> Result<(), String> {
     check_names()?;
     let mut total = Tally::default();
-    println!("{:<32}{:>10}{:>10}{:>10}", "function", "compared", "refused", "different");
+    println!("{:<44}{:>10}{:>10}{:>10}", "function", "compared", "refused", "different");
     for entry in MODULES.iter().flat_map(|(_, entries, _)| *entries) {
         let tally = check(entry, function(entry)?, options.seed, options.count);
         print(entry.name, &tally);
@@ -90,7 +93,7 @@ fn run(options: Options) -> Result<(), String> {
 }
 
 fn print(name: &str, tally: &Tally) {
-    println!("{name:<32}{:>10}{:>10}{:>10}", tally.compared, tally.refused, tally.different);
+    println!("{name:<44}{:>10}{:>10}{:>10}", tally.compared, tally.refused, tally.different);
 }
 
 /// Every function of the header has one entry.

@@ -14,7 +14,7 @@ fn main() -> ExitCode {
     let visits = (0..VISITS).map(|_| rows::ROWS.iter().map(|row| row()).collect());
     let better = |one: Vec<Row>, other: Vec<Row>| one.into_iter().zip(other).map(|(a, b)| a.better(b)).collect();
     let rows = visits.reduce(better).unwrap();
-    println!("{:<48}{:>12}{:>12}{:>9}{:>9}", "nanoseconds an element", "Rust", "library", "ratio", "limit");
+    println!("{:<54}{:>12}{:>12}{:>9}{:>9}", "nanoseconds an element", "Rust", "library", "ratio", "limit");
     rows.iter().for_each(print);
     if rows.iter().all(Row::passes) {
         ExitCode::SUCCESS
@@ -30,5 +30,5 @@ fn print(row: &Row) {
         (true, false) => "  above the limit",
         (true, true) => "",
     };
-    println!("{what:<48}{rust:>12.3}{library:>12.3}{:>9.3}{limit:>9.2}{remark}", row.ratio());
+    println!("{what:<54}{rust:>12.3}{library:>12.3}{:>9.3}{limit:>9.2}{remark}", row.ratio());
 }

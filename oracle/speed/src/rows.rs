@@ -3,7 +3,8 @@
 use crate::measure::{best, Row};
 use common::element::{elements, point, point_words, words_of, Element};
 use common::library::{
-    tari_index_to_point, tari_m31_batch_inverse_in_place, tari_point_add, tari_point_repeated_double, tari_point_reply,
+    tari_bit_reverse, tari_bit_reverse_coset_to_circle_domain_order, tari_index_to_point,
+    tari_m31_batch_inverse_in_place, tari_point_add, tari_point_repeated_double, tari_point_reply,
     tari_qm31_batch_inverse_in_place, tari_qm31_mul, tari_secure_point_add, tari_write_reply,
 };
 use common::random::Random;
@@ -12,6 +13,7 @@ use stwo::core::circle::{CirclePoint, CirclePointIndex};
 use stwo::core::fields::batch_inverse_in_place;
 use stwo::core::fields::m31::{M31, P};
 use stwo::core::fields::qm31::QM31;
+use stwo::core::utils::{bit_reverse, bit_reverse_coset_to_circle_domain_order};
 
 pub const ROWS: &[fn() -> Row] = &[
     || batch_inverse::<M31>("m31_batch_inverse_in_place, 2^20 elements", 1 << 20, tari_m31_batch_inverse_in_place),
@@ -21,6 +23,12 @@ pub const ROWS: &[fn() -> Row] = &[
     || chain("secure_point_add, a chain of 2^16 sums", 1 << 16, 8, point, |x, y| x + y, secure_point_add),
     || doublings("point_repeated_double, 2^16 sums", 1 << 16),
     || to_point("index_to_point, 2^16 indices", 1 << 16),
+    || permutation("bit_reverse, 2^20 words", 1 << 20, bit_reverse, tari_bit_reverse),
+    || {
+        let what = "bit_reverse_coset_to_circle_domain_order, 2^20 words";
+        let call = tari_bit_reverse_coset_to_circle_domain_order;
+        permutation(what, 1 << 20, bit_reverse_coset_to_circle_domain_order, call)
+    },
 ];
 
 /// The library may take a tenth longer than the Rust.
@@ -151,6 +159,24 @@ fn to_point(what: &'static str, n: usize) -> Row {
     );
     let equal = rust_points.iter().flat_map(point_words).eq(points.concat());
     Row { what, rust, library, limit: TABLE_LIMIT, equal }
+}
+
+type Permutation = unsafe extern "C" fn(*mut u32, u64) -> tari_write_reply;
+
+/// Each side permutes its own column again and again. Every second time brings back the start, so the columns are
+/// compared after one time more and after two.
+fn permutation(what: &'static str, n: usize, rust_permute: fn(&mut [u32]), call: Permutation) -> Row {
+    let (mut rust_v, mut v) = (drawn(what, n), drawn(what, n));
+    let permute = |v: &mut Vec<u32>| unsafe {
+        call(v.as_mut_ptr(), n as u64);
+    };
+    let (rust, library) = best(n, || rust_permute(black_box(&mut rust_v)), || permute(black_box(&mut v)));
+    let equal = (0..2).all(|_| {
+        rust_permute(&mut rust_v);
+        permute(&mut v);
+        rust_v == v
+    });
+    Row { what, rust, library, limit: LIMIT, equal }
 }
 
 /// Words from 1 to P - 1.

@@ -21,3 +21,10 @@ pub mod core {
         }
     }
 }
+
+/// The function of `utils.rs` that stwo keeps to itself.
+pub fn circle_domain_order_to_coset_order(
+    values: &[crate::core::fields::m31::BaseField],
+) -> Vec<crate::core::fields::m31::BaseField> {
+    crate::core::utils::circle_domain_order_to_coset_order(values)
+}
