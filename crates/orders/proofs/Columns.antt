@@ -1,124 +1,164 @@
 -- The turns that the loops of the four permutations take.
-use Prim.Native.Nat.{ℕ, zero, suc, _+_, _-_, _*_, _/_, _%_, _^_, _≤_, _<_}
-use mathlib.Core.Path.{_≡_, refl, sym, _∙_, ap, subst}
+use Prim.Native.Nat.{ℕ, suc, _+_, _-_, _*_, _/_, _%_, _^_, _≤_, _<_}
+use mathlib.Core.Path.{_≡_, refl, sym, _∙_, ap, ap₂, subst}
 use mathlib.Core.List.{List, _++_}
 use native.Mathlib.Nat as N
 use native.Mathlib.Omega.{arith}
+use lib.Dec.{lit<}
 use lib.ListN.{length, getD, set, drop}
 use lib.Pow as W
-use Rattle.orders.specs.BitReverse.{reverseBits, reversed-below, reversed-back, pair-first, pair-second, half-first, half-second}
+use Rattle.orders.specs.BitReverse.{reverseBits, reversed-below, reversed-back, reversed-dropped, reversed-parts}
 use Rattle.orders.specs.Orders.{bitReverseIndex, reordered, toDomain, toCoset, cosetBitReversed}
 use Rattle.orders.specs.OrderLaws.{index-reversed, is-reordered, even-to-domain, odd-to-domain, first-to-coset, second-to-coset, to-coset-below, to-domain-to-coset, coset-even, coset-odd, coset-bits-below, coset-bits-back}
-use Rattle.orders.specs.Swaps.{swappedIfBefore, blockSwapped, pairSwapped}
+use Rattle.orders.specs.Swaps.{swappedIfBefore, rowSwapped, blockSwapped, pairSwapped}
 use Rattle.orders.proofs.Turns.{Visits, in-order, Swapped, none-swapped, all-swapped, turned, Copied, none-copied, copied, all-copied}
 
--- ---- bit_reverse: x after x, the words 2x and 2x + 1 of the lower half and then of the upper one
+-- ---- bit_reverse, word by word
 
--- the turn of place k, where a quarter of the column is so many words
-unfoldable pub blockTurn : ℕ → ℕ → ℕ
-blockTurn quarter k = 4 * (k / 2 % quarter) + 2 * (k / 2 / quarter) + k % 2
+-- l with its first i words done
+abbrev pub Words : ℕ → List ℕ → ℕ → List ℕ → Type 0
+Words n l i v = Swapped (reverseBits n) (λ k. k) l i v
 
-module _ (n m : ℕ) (e : n ≡ suc (suc m)) (l : List ℕ) (size : length l ≡ 2 ^ n) where
-  quarters : length l ≡ 4 * 2 ^ m
-  quarters = size ∙ ap (λ (t : ℕ). 2 ^ t) e ∙ omega (arith, N.pow-succ' 2 (suc m), N.pow-succ' 2 m)
-
-  halves : 2 ^ suc m ≡ 2 * 2 ^ m
-  halves = N.pow-succ' 2 m
-
-  -- place k, with k / 2 and k % 2 given
-  turn-of : (k h x c : ℕ) → x < 2 ^ m → k / 2 ≡ h * 2 ^ m + x → k % 2 ≡ c → blockTurn (2 ^ m) k ≡ 4 * x + 2 * h + c
-  unfolding blockTurn
-  turn-of k h x c b f g =
-      let low : k / 2 % 2 ^ m ≡ x = ap (λ (t : ℕ). t % 2 ^ m) f ∙ W.low h m b in
-      let high : k / 2 / 2 ^ m ≡ h = ap (λ (t : ℕ). t / 2 ^ m) f ∙ W.high h m b in
-      rw (low, high, g)
-
-  upper : (k : ℕ) → k < length l → k / 2 / 2 ^ m < 2
-  upper k h = W.shr-lt 1 m (omega (arith, quarters, W.pow-add 2 1 m))
-
-  visits : Visits (length l) (blockTurn (2 ^ m))
-  unfolding blockTurn
-  visits = record {
-    below = λ k h. omega (arith, quarters, upper k h, N.mod-lt (k / 2) (W.pow-pos m));
-    once = λ k j h g q.
-        let low : k / 2 % 2 ^ m ≡ j / 2 % 2 ^ m = omega (arith, upper k h, upper j g) in
-        let high : k / 2 / 2 ^ m ≡ j / 2 / 2 ^ m = omega (arith, upper k h, upper j g) in
-        let same : k / 2 ≡ j / 2 = sym (W.split (k / 2) m) ∙ omega (arith, low, ap (λ (t : ℕ). t * 2 ^ m) high) ∙ W.split (j / 2) m in
-        omega (arith, upper k h, upper j g);
-  }
-
+module _ (n : ℕ) (l : List ℕ) (size : length l ≡ 2 ^ n) where
   within : (k : ℕ) → k < length l → reverseBits n k < length l
   within k h = rw size (reversed-below n k)
 
   twice : (k : ℕ) → k < length l → reverseBits n (reverseBits n k) ≡ k
   twice k h = reversed-back n k (subst (λ (t : ℕ). k < t) size h)
 
-  none-at : Swapped (reverseBits n) (blockTurn (2 ^ m)) l 0 l
-  none-at = none-swapped (reverseBits n) (blockTurn (2 ^ m)) l within twice visits
+  pub no-word : Words n l 0 l
+  no-word = none-swapped (reverseBits n) (λ k. k) l within twice (in-order (length l))
 
-  all-at : (x : ℕ) (v : List ℕ) → length l / 4 ≤ x → Swapped (reverseBits n) (blockTurn (2 ^ m)) l (4 * x) v → v ≡ reordered (reverseBits n) l
-  all-at x v h s = all-swapped (reverseBits n) (blockTurn (2 ^ m)) l within twice visits (4 * x) v (omega (arith, quarters)) s
+  pub all-words : (i : ℕ) (v : List ℕ) → length l ≤ i → Words n l i v → v ≡ reordered (reverseBits n) l
+  all-words = all-swapped (reverseBits n) (λ k. k) l within twice (in-order (length l))
 
-  reversed : (k j : ℕ) → reverseBits (suc (suc m)) k ≡ j → reverseBits n k ≡ j
-  reversed k j f = ap (λ (t : ℕ). reverseBits t k) e ∙ f
+  pub next-word : (i j : ℕ) (v : List ℕ) → i < length l → j ≡ bitReverseIndex i n → Words n l i v → Words n l (i + 1) (swappedIfBefore i j i j v)
+  next-word i j v h f s =
+      let r : reverseBits n i ≡ j = sym (f ∙ index-reversed i n (subst (λ (t : ℕ). i < t) size h)) in
+      turned (reverseBits n) (λ k. k) l within twice (in-order (length l)) i i j refl h r v s (i + 1) j refl refl
 
-  next-at : (half x y : ℕ) (v : List ℕ) → half ≡ length l / 2 → x < length l / 4 → y ≡ bitReverseIndex x m → Swapped (reverseBits n) (blockTurn (2 ^ m)) l (4 * x) v → Swapped (reverseBits n) (blockTurn (2 ^ m)) l (4 * (x + 1)) (blockSwapped half x y v)
-  unfolding blockSwapped
-  next-at half x y v q₀ b₀ r₀ s =
-      let q : half ≡ 2 * 2 ^ m = omega (arith, quarters) in
-      let b : x < 2 ^ m = omega (arith, quarters) in
+  pub word-room : (i j : ℕ) → i < length l → j ≡ bitReverseIndex i n → j < length l
+  word-room i j h f = rw (f ∙ index-reversed i n (subst (λ (t : ℕ). i < t) size h)) (within i h)
+
+-- ---- bit_reverse by blocks: x after x, the words 4x to 4x + 3 of each quarter
+
+-- the turn of place k, where there are so many blocks
+unfoldable pub blockTurn : ℕ → ℕ → ℕ
+blockTurn blocks k = 16 * (k / 4 % blocks) + 4 * (k / 4 / blocks) + k % 4
+
+module _ (n m : ℕ) (e : n ≡ 2 + (m + 2)) (l : List ℕ) (size : length l ≡ 2 ^ n) where
+  sixteenths : length l ≡ 16 * 2 ^ m
+  sixteenths = size ∙ ap (λ (t : ℕ). 2 ^ t) e ∙ omega (arith, W.pow-add 2 2 (m + 2), W.pow-add 2 m 2)
+
+  -- place k, with k / 4 and k % 4 given
+  turn-of : (k h x c : ℕ) → x < 2 ^ m → k / 4 ≡ h * 2 ^ m + x → k % 4 ≡ c → blockTurn (2 ^ m) k ≡ 16 * x + 4 * h + c
+  unfolding blockTurn
+  turn-of k h x c b f g =
+      let low : k / 4 % 2 ^ m ≡ x = ap (λ (t : ℕ). t % 2 ^ m) f ∙ W.low h m b in
+      let high : k / 4 / 2 ^ m ≡ h = ap (λ (t : ℕ). t / 2 ^ m) f ∙ W.high h m b in
+      rw (low, high, g)
+
+  partner-of : (k h x c : ℕ) → x < 2 ^ m → k / 4 ≡ h * 2 ^ m + x → k % 4 ≡ c → reverseBits n k ≡ reverseBits 2 c * (4 * 2 ^ m) + (4 * reverseBits m x + reverseBits 2 h)
+  partner-of k h x c b f g =
+      let whole : k ≡ k / 4 * 2 ^ 2 + c = omega arith in
+      let lowest : reverseBits 2 k ≡ reverseBits 2 c = ap (reverseBits 2) whole ∙ reversed-dropped 2 (k / 4) c in
+      let upper : reverseBits (m + 2) (k / 4) ≡ reverseBits m x * 4 + reverseBits 2 h =
+      reversed-parts m 2 (k / 4)
+      ∙ ap₂ (λ (s t : ℕ). s * 4 + t) (ap (reverseBits m) f ∙ reversed-dropped m h x) (ap (λ (t : ℕ). reverseBits 2 (t / 2 ^ m)) f ∙ ap (reverseBits 2) (W.high h m b)) in
+      ap (λ (t : ℕ). reverseBits t k) e
+      ∙ reversed-parts 2 (m + 2) k
+      ∙ ap₂ (λ (s t : ℕ). s * 2 ^ (m + 2) + t) lowest upper
+      ∙ omega (arith, ap (λ (t : ℕ). reverseBits 2 c * t) (W.pow-add 2 m 2 ∙ N.mul-comm (2 ^ m) 4))
+
+  upper : (k : ℕ) → k < length l → k / 4 / 2 ^ m < 4
+  upper k h = W.shr-lt 2 m (omega (arith, sixteenths, W.pow-add 2 2 m))
+
+  visits : Visits (length l) (blockTurn (2 ^ m))
+  unfolding blockTurn
+  visits = record {
+    below = λ k h. omega (arith, sixteenths, upper k h, N.mod-lt (k / 4) (W.pow-pos m));
+    once = λ k j h g q.
+        let low : k / 4 % 2 ^ m ≡ j / 4 % 2 ^ m = omega (arith, upper k h, upper j g) in
+        let high : k / 4 / 2 ^ m ≡ j / 4 / 2 ^ m = omega (arith, upper k h, upper j g) in
+        let same : k / 4 ≡ j / 4 = sym (W.split (k / 4) m) ∙ omega (arith, low, ap (λ (t : ℕ). t * 2 ^ m) high) ∙ W.split (j / 4) m in
+        omega (arith, upper k h, upper j g);
+  }
+
+  abbrev Turned : ℕ → List ℕ → Type 0
+  Turned t v = Swapped (reverseBits n) (blockTurn (2 ^ m)) l t v
+
+  -- word c of row h of block x: the reverses of c and h in two bits are d and g
+  word-turned : (h x y c d g quarter : ℕ) → quarter ≡ 4 * 2 ^ m → h < 4 → c < 4 → d < 4 → x < 2 ^ m → y ≡ reverseBits m x → reverseBits 2 c ≡ d → reverseBits 2 h ≡ g
+      → (s t u i j : ℕ) (v : List ℕ) → s ≡ t + 1 → t ≡ 16 * x + 4 * h + c → u ≡ 16 * y + 4 * d + g → i ≡ h * quarter + 4 * x + c → j ≡ d * quarter + 4 * y + g → Turned t v → Turned s (swappedIfBefore t u i j v)
+  word-turned h x y c d g quarter q hh ch dh b r cd hg s t u i j v next et eu ei ej w =
+      let bound : g < 4 = rw (sym hg) (reversed-below 2 h) in
+      let below : y < 2 ^ m = rw r (reversed-below m x) in
+      let rows : h * quarter ≡ h * 2 ^ m * 4 = ap (λ (t : ℕ). h * t) (q ∙ N.mul-comm 4 (2 ^ m)) ∙ sym (N.mul-assoc h (2 ^ m) 4) in
+      let columns : d * quarter ≡ d * 2 ^ m * 4 = ap (λ (t : ℕ). d * t) (q ∙ N.mul-comm 4 (2 ^ m)) ∙ sym (N.mul-assoc d (2 ^ m) 4) in
+      let up : h * 2 ^ m ≤ 3 * 2 ^ m = N.mul-le-mul-right (2 ^ m) (N.le-of-suc-le-suc hh) in
+      let partner : reverseBits n i ≡ j =
+      partner-of i h x c b (omega arith) (omega arith) ∙ ap₂ (λ (a z : ℕ). a * (4 * 2 ^ m) + z) cd (ap₂ (λ (a z : ℕ). 4 * a + z) (sym r) hg) ∙ ap (λ (a : ℕ). d * a + (4 * y + g)) (sym q) ∙ omega arith in
+      turned (reverseBits n) (blockTurn (2 ^ m)) l (within n l size) (twice n l size) visits t i j (turn-of i h x c b (omega arith) (omega arith) ∙ sym et) (omega (arith, sixteenths)) partner v w s u next (turn-of j d y g below (omega arith) (omega arith) ∙ sym eu)
+
+  row-turned : (h x y g quarter : ℕ) → quarter ≡ 4 * 2 ^ m → h < 4 → x < 2 ^ m → y ≡ reverseBits m x → reverseBits 2 h ≡ g
+      → (s t u from to : ℕ) (v : List ℕ) → s ≡ t + 4 → t ≡ 16 * x + 4 * h → u ≡ 16 * y + g → from ≡ h * quarter + 4 * x → to ≡ 4 * y + g → Turned t v → Turned s (rowSwapped quarter t u from to v)
+  unfolding rowSwapped reverseBits
+  row-turned h x y g quarter q hh b r hg s t u from to v next et eu ef eo w =
+      let w₁ = word-turned h x y 0 0 g quarter q hh (lit< tt) (lit< tt) b r refl hg (t + 1) t u from to v refl (omega arith) (omega arith) (omega arith) (omega arith) w in
+      let w₂ = word-turned h x y 1 2 g quarter q hh (lit< tt) (lit< tt) b r refl hg (t + 2) (t + 1) (u + 8) (from + 1) (to + 2 * quarter) _ (omega arith) (omega arith) (omega arith) (omega arith) (omega arith) w₁ in
+      let w₃ = word-turned h x y 2 1 g quarter q hh (lit< tt) (lit< tt) b r refl hg (t + 3) (t + 2) (u + 4) (from + 2) (to + quarter) _ (omega arith) (omega arith) (omega arith) (omega arith) (omega arith) w₂ in
+      word-turned h x y 3 3 g quarter q hh (lit< tt) (lit< tt) b r refl hg s (t + 3) (u + 12) (from + 3) (to + 3 * quarter) _ (omega arith) (omega arith) (omega arith) (omega arith) (omega arith) w₃
+
+  block-turned : (quarter x y : ℕ) (v : List ℕ) → quarter ≡ length l / 4 → x < length l / 16 → y ≡ bitReverseIndex x m → Turned (16 * x) v → Turned (16 * (x + 1)) (blockSwapped quarter x y v)
+  unfolding blockSwapped reverseBits
+  block-turned quarter x y v q₀ b₀ r₀ w =
+      let q : quarter ≡ 4 * 2 ^ m = omega (arith, sixteenths) in
+      let b : x < 2 ^ m = omega (arith, sixteenths) in
       let r : y ≡ reverseBits m x = r₀ ∙ index-reversed x m b in
-      let turn = turned (reverseBits n) (blockTurn (2 ^ m)) l within twice visits in
-      let c : y < 2 ^ m = rw r (reversed-below m x) in
-      let first : reverseBits (suc m) x ≡ 2 * y = half-first m x b ∙ ap (λ (t : ℕ). 2 * t) (sym r) in
-      let second : reverseBits (suc m) (2 ^ m + x) ≡ 2 * y + 1 = half-second m x b ∙ ap (λ (t : ℕ). 2 * t + 1) (sym r) in
-      let shape : half + 2 * x ≡ 2 * (2 ^ m + x) = omega arith in
-      let s₁ = turn (4 * x) (2 * x) (2 * y) (turn-of (2 * x) 0 x 0 b (omega arith) (omega arith) ∙ omega arith) (omega (arith, quarters)) (reversed (2 * x) (2 * y) (pair-first (suc m) x ∙ first)) v s (4 * x + 1) (4 * y) refl (turn-of (2 * y) 0 y 0 c (omega arith) (omega arith) ∙ omega arith) in
-      let s₂ = turn (4 * x + 1) (2 * x + 1) (half + 2 * y) (turn-of (2 * x + 1) 0 x 1 b (omega arith) (omega arith) ∙ omega arith) (omega (arith, quarters)) (reversed (2 * x + 1) (half + 2 * y) (pair-second (suc m) x ∙ omega (arith, halves, first))) _ s₁ (4 * x + 2) (4 * y + 2) (omega arith) (turn-of (half + 2 * y) 1 y 0 c (omega arith) (omega arith) ∙ omega arith) in
-      let s₃ = turn (4 * x + 2) (half + 2 * x) (2 * y + 1) (turn-of (half + 2 * x) 1 x 0 b (omega arith) (omega arith) ∙ omega arith) (omega (arith, quarters)) (reversed (half + 2 * x) (2 * y + 1) (ap (reverseBits (suc (suc m))) shape ∙ pair-first (suc m) (2 ^ m + x) ∙ second)) _ s₂ (4 * x + 3) (4 * y + 1) (omega arith) (turn-of (2 * y + 1) 0 y 1 c (omega arith) (omega arith) ∙ omega arith) in
-      turn (4 * x + 3) (half + 2 * x + 1) (half + 2 * y + 1) (turn-of (half + 2 * x + 1) 1 x 1 b (omega arith) (omega arith) ∙ omega arith) (omega (arith, quarters)) (reversed (half + 2 * x + 1) (half + 2 * y + 1) (ap (λ (t : ℕ). reverseBits (suc (suc m)) (t + 1)) shape ∙ pair-second (suc m) (2 ^ m + x) ∙ omega (arith, halves, second))) _ s₃ (4 * (x + 1)) (4 * y + 3) (omega arith) (turn-of (half + 2 * y + 1) 1 y 1 c (omega arith) (omega arith) ∙ omega arith)
+      let w₁ = row-turned 0 x y 0 quarter q (lit< tt) b r refl (16 * x + 4) (16 * x) (16 * y) (4 * x) (4 * y) v refl (omega arith) (omega arith) (omega arith) (omega arith) w in
+      let w₂ = row-turned 1 x y 2 quarter q (lit< tt) b r refl (16 * x + 8) (16 * x + 4) (16 * y + 2) (quarter + 4 * x) (4 * y + 2) _ (omega arith) (omega arith) (omega arith) (omega arith) (omega arith) w₁ in
+      let w₃ = row-turned 2 x y 1 quarter q (lit< tt) b r refl (16 * x + 12) (16 * x + 8) (16 * y + 1) (2 * quarter + 4 * x) (4 * y + 1) _ (omega arith) (omega arith) (omega arith) (omega arith) (omega arith) w₂ in
+      row-turned 3 x y 3 quarter q (lit< tt) b r refl (16 * (x + 1)) (16 * x + 12) (16 * y + 3) (3 * quarter + 4 * x) (4 * y + 3) _ (omega arith) (omega arith) (omega arith) (omega arith) (omega arith) w₃
 
 -- l with the first x blocks done
 abbrev pub Blocks : ℕ → List ℕ → ℕ → List ℕ → Type 0
-Blocks n l x v = Swapped (reverseBits n) (blockTurn (2 ^ (n - 2))) l (4 * x) v
+Blocks n l x v = Swapped (reverseBits n) (blockTurn (2 ^ (n - 4))) l (16 * x) v
 
-module _ (n : ℕ) (least : 2 ≤ n) (l : List ℕ) (size : length l ≡ 2 ^ n) where
-  two-more : n ≡ suc (suc (n - 2))
-  two-more = omega arith
+module _ (n : ℕ) (least : 4 ≤ n) (l : List ℕ) (size : length l ≡ 2 ^ n) where
+  four-more : n ≡ 2 + (n - 4 + 2)
+  four-more = omega arith
 
   pub no-block : Blocks n l 0 l
-  no-block = none-at n (n - 2) two-more l size
+  no-block = none-swapped (reverseBits n) (blockTurn (2 ^ (n - 4))) l (within n l size) (twice n l size) (visits n (n - 4) four-more l size)
 
-  pub all-blocks : (x : ℕ) (v : List ℕ) → length l / 4 ≤ x → Blocks n l x v → v ≡ reordered (reverseBits n) l
-  all-blocks = all-at n (n - 2) two-more l size
+  pub all-blocks : (x : ℕ) (v : List ℕ) → length l / 16 ≤ x → Blocks n l x v → v ≡ reordered (reverseBits n) l
+  all-blocks x v h s = all-swapped (reverseBits n) (blockTurn (2 ^ (n - 4))) l (within n l size) (twice n l size) (visits n (n - 4) four-more l size) (16 * x) v (omega (arith, sixteenths n (n - 4) four-more l size)) s
 
-  pub next-block : (half x y : ℕ) (v : List ℕ) → half ≡ length l / 2 → x < length l / 4 → y ≡ bitReverseIndex x (n - 2) → Blocks n l x v → Blocks n l (x + 1) (blockSwapped half x y v)
-  next-block = next-at n (n - 2) two-more l size
+  pub next-block : (quarter x y : ℕ) (v : List ℕ) → quarter ≡ length l / 4 → x < length l / 16 → y ≡ bitReverseIndex x (n - 4) → Blocks n l x v → Blocks n l (x + 1) (blockSwapped quarter x y v)
+  next-block = block-turned n (n - 4) four-more l size
 
   -- what a block's places want
-  pub block-room : (x y : ℕ) → x < length l / 4 → y ≡ bitReverseIndex x (n - 2) → (length l / 2 * 2 ≡ length l) × (2 * x + 1 < length l / 2) × (2 * y + 1 < length l / 2)
+  pub block-room : (x y : ℕ) → x < length l / 16 → y ≡ bitReverseIndex x (n - 4) → (length l / 4 * 4 ≡ length l) × (4 * x + 3 < length l / 4) × (4 * y + 3 < length l / 4)
   block-room x y b r =
-      let q : length l ≡ 4 * 2 ^ (n - 2) = quarters n (n - 2) two-more l size in
-      let c : y < 2 ^ (n - 2) = rw (r ∙ index-reversed x (n - 2) (omega arith)) (reversed-below (n - 2) x) in
+      let q : length l ≡ 16 * 2 ^ (n - 4) = sixteenths n (n - 4) four-more l size in
+      let c : y < 2 ^ (n - 4) = rw (r ∙ index-reversed x (n - 4) (omega arith)) (reversed-below (n - 4) x) in
       (omega arith, omega arith, omega arith)
 
-pub block-made : (half x y : ℕ) (v₀ v₁ v₂ v₃ v₄ : List ℕ) → v₁ ≡ swappedIfBefore (4 * x) (4 * y) (2 * x) (2 * y) v₀ → v₂ ≡ swappedIfBefore (4 * x + 1) (4 * y + 2) (2 * x + 1) (half + 2 * y) v₁
-    → v₃ ≡ swappedIfBefore (4 * x + 2) (4 * y + 1) (half + 2 * x) (2 * y + 1) v₂ → v₄ ≡ swappedIfBefore (4 * x + 3) (4 * y + 3) (half + 2 * x + 1) (half + 2 * y + 1) v₃ → v₄ ≡ blockSwapped half x y v₀
-unfolding blockSwapped
-block-made half x y v₀ v₁ v₂ v₃ v₄ e f g h =
+pub row-made : (quarter t u from to : ℕ) (v₀ v₁ v₂ v₃ v₄ : List ℕ) → v₁ ≡ swappedIfBefore t u from to v₀ → v₂ ≡ swappedIfBefore (t + 1) (u + 8) (from + 1) (to + 2 * quarter) v₁
+    → v₃ ≡ swappedIfBefore (t + 2) (u + 4) (from + 2) (to + quarter) v₂ → v₄ ≡ swappedIfBefore (t + 3) (u + 12) (from + 3) (to + 3 * quarter) v₃ → v₄ ≡ rowSwapped quarter t u from to v₀
+unfolding rowSwapped
+row-made quarter t u from to v₀ v₁ v₂ v₃ v₄ e f g h =
     h
-    ∙ ap (swappedIfBefore (4 * x + 3) (4 * y + 3) (half + 2 * x + 1) (half + 2 * y + 1))
-    (g ∙ ap (swappedIfBefore (4 * x + 2) (4 * y + 1) (half + 2 * x) (2 * y + 1)) (f ∙ ap (swappedIfBefore (4 * x + 1) (4 * y + 2) (2 * x + 1) (half + 2 * y)) e))
+    ∙ ap (swappedIfBefore (t + 3) (u + 12) (from + 3) (to + 3 * quarter))
+    (g ∙ ap (swappedIfBefore (t + 2) (u + 4) (from + 2) (to + quarter)) (f ∙ ap (swappedIfBefore (t + 1) (u + 8) (from + 1) (to + 2 * quarter)) e))
 
--- one or two words stay where they are
-pub few-stay : (n : ℕ) (l : List ℕ) → n < 2 → length l ≡ 2 ^ n → l ≡ reordered (reverseBits n) l
-unfolding reverseBits
-few-stay n l h size = is-reordered (reverseBits n) l l refl (λ i b. ap (λ (t : ℕ). getD l t 0) (stays n i h (subst (λ (t : ℕ). i < t) size b)))
-  where
-    stays : (n i : ℕ) → n < 2 → i < 2 ^ n → i ≡ reverseBits n i
-    stays zero i h b = omega (arith, N.pow-zero 2)
-    stays (suc zero) i h b = omega arith
-    stays (suc (suc n)) i h b = absurd (N.not-suc-le-zero (N.le-of-suc-le-suc (N.le-of-suc-le-suc h)))
+pub block-made : (quarter x y : ℕ) (v₀ v₁ v₂ v₃ v₄ : List ℕ) → v₁ ≡ rowSwapped quarter (16 * x) (16 * y) (4 * x) (4 * y) v₀ → v₂ ≡ rowSwapped quarter (16 * x + 4) (16 * y + 2) (quarter + 4 * x) (4 * y + 2) v₁
+    → v₃ ≡ rowSwapped quarter (16 * x + 8) (16 * y + 1) (2 * quarter + 4 * x) (4 * y + 1) v₂ → v₄ ≡ rowSwapped quarter (16 * x + 12) (16 * y + 3) (3 * quarter + 4 * x) (4 * y + 3) v₃ → v₄ ≡ blockSwapped quarter x y v₀
+unfolding blockSwapped
+block-made quarter x y v₀ v₁ v₂ v₃ v₄ e f g h =
+    h
+    ∙ ap (rowSwapped quarter (16 * x + 12) (16 * y + 3) (3 * quarter + 4 * x) (4 * y + 3))
+    (g ∙ ap (rowSwapped quarter (16 * x + 8) (16 * y + 1) (2 * quarter + 4 * x) (4 * y + 1)) (f ∙ ap (rowSwapped quarter (16 * x + 4) (16 * y + 2) (quarter + 4 * x) (4 * y + 2)) e))
 
 -- ---- bit_reverse_coset_to_circle_domain_order: pair after pair
 

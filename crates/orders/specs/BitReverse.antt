@@ -50,7 +50,7 @@ reversed-last (suc n) i =
     down = W.shr-shr i 1 n ∙ ap (λ (t : ℕ). i / 2 ^ t) (omega arith)
 
 -- bits from n on are dropped
-reversed-dropped : (n a p : ℕ) → reverseBits n (a * 2 ^ n + p) ≡ reverseBits n p
+pub reversed-dropped : (n a p : ℕ) → reverseBits n (a * 2 ^ n + p) ≡ reverseBits n p
 unfolding reverseBits
 reversed-dropped zero a p = refl
 reversed-dropped (suc n) a p =

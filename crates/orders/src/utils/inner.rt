@@ -5,7 +5,7 @@ ghost use Prim.Native.Nat.{_+_, _*_, _-_, _%_, _^_, _≤_, _<_};
 ghost use lib.ListN.{length, getD, set, drop};
 ghost use Rattle.orders.specs.BitReverse.{reverseBits};
 ghost use Rattle.orders.specs.Orders.{bitReverseIndex, toDomain, toCoset, reordered, logSize, cosetBitReversed, isSmallerDomain, moved, offsetElement, offsetIndex};
-ghost use Rattle.orders.specs.Swaps.{swapped, swappedIfBefore, blockSwapped, pairSwapped};
+ghost use Rattle.orders.specs.Swaps.{swapped, swappedIfBefore, rowSwapped, blockSwapped, pairSwapped};
 
 // All 64 bits in reverse: neighbouring bits change places, then neighbouring pairs, and so on up to the halves.
 pub fn reverse_bits(x: u64) -> u64
@@ -69,34 +69,86 @@ fn swap_if_before(v: &mut [u32], t: usize, u: usize, i: usize, j: usize)
     }
 }
 
-// Words 2x and 2x + 1 of both halves, and those of y, the reverse of x: a small block of rows that lie far apart, so
-// that each row's cache line is used twice while it is there.
-fn swap_block(v: &mut [u32], half: usize, x: usize, y: usize)
-    requires { ⌜ (half * 2 ≡ length (now v)) × (2 * x + 1 < half) × (2 * y + 1 < half) ⌝ }
-    ensures { λ _. ⌜ now (v .exit) ≡ blockSwapped half x y (now (v .entry)) ⌝ }
+// Four words from `from` on and their partners, a quarter of the column apart.
+fn swap_row(v: &mut [u32], quarter: usize, t: usize, u: usize, from: usize, to: usize)
+    requires { ⌜ (quarter * 4 ≡ length (now v)) × (from + 3 < length (now v)) × (to < quarter) × (t + 3 < length (now v)) × (u + 12 < length (now v)) ⌝ }
+    ensures { λ _. ⌜ now (v .exit) ≡ rowSwapped quarter t u from to (now (v .entry)) ⌝ }
 {
-    swap_if_before(v, 4 * x, 4 * y, 2 * x, 2 * y);
-    swap_if_before(v, 4 * x + 1, 4 * y + 2, 2 * x + 1, half + 2 * y);
-    swap_if_before(v, 4 * x + 2, 4 * y + 1, half + 2 * x, 2 * y + 1);
-    swap_if_before(v, 4 * x + 3, 4 * y + 3, half + 2 * x + 1, half + 2 * y + 1);
+    swap_if_before(v, t, u, from, to);
+    swap_if_before(v, t + 1, u + 8, from + 1, to + 2 * quarter);
+    swap_if_before(v, t + 2, u + 4, from + 2, to + quarter);
+    swap_if_before(v, t + 3, u + 12, from + 3, to + 3 * quarter);
 }
 
-// One or two words stay where they are.
+// Words 4x to 4x + 3 of each quarter, and those of y, the reverse of x: rows that lie far apart, so that a row's cache
+// line is used four times while it is there.
+fn swap_block(v: &mut [u32], quarter: usize, x: usize, y: usize)
+    requires { ⌜ (quarter * 4 ≡ length (now v)) × (4 * x + 3 < quarter) × (4 * y + 3 < quarter) ⌝ }
+    ensures { λ _. ⌜ now (v .exit) ≡ blockSwapped quarter x y (now (v .entry)) ⌝ }
+{
+    swap_row(v, quarter, 16 * x, 16 * y, 4 * x, 4 * y);
+    swap_row(
+        v,
+        quarter,
+        16 * x + 4,
+        16 * y + 2,
+        quarter + 4 * x,
+        4 * y + 2,
+    );
+    swap_row(
+        v,
+        quarter,
+        16 * x + 8,
+        16 * y + 1,
+        2 * quarter + 4 * x,
+        4 * y + 1,
+    );
+    swap_row(
+        v,
+        quarter,
+        16 * x + 12,
+        16 * y + 3,
+        3 * quarter + 4 * x,
+        4 * y + 3,
+    );
+}
+
+// Columns that have no block.
+fn bit_reverse_short(v: &mut [u32], log_size: u32)
+    requires { ⌜ («log_size» < 64) × (length (now v) ≡ 2 ^ «log_size») ⌝ }
+    ensures { λ _. ⌜ now (v .exit) ≡ reordered (reverseBits «log_size») (now (v .entry)) ⌝ }
+{
+    let mut i: usize = 0;
+    while i < v.len() {
+        let j = bit_reverse_index(i as u64, log_size) as usize;
+        swap_if_before(v, i, j, i, j);
+        i += 1;
+    }
+}
+
+fn bit_reverse_blocks(v: &mut [u32], log_size: u32)
+    requires { ⌜ (4 ≤ «log_size») × («log_size» < 64) × (length (now v) ≡ 2 ^ «log_size») ⌝ }
+    ensures { λ _. ⌜ now (v .exit) ≡ reordered (reverseBits «log_size») (now (v .entry)) ⌝ }
+{
+    let quarter = v.len() / 4;
+    let blocks = v.len() / 16;
+    let mut x: usize = 0;
+    while x < blocks {
+        let y = bit_reverse_index(x as u64, log_size - 4) as usize;
+        swap_block(v, quarter, x, y);
+        x += 1;
+    }
+}
+
 pub fn bit_reverse(v: &mut [u32], log_size: u32)
     requires { ⌜ («log_size» < 64) × (length (now v) ≡ 2 ^ «log_size») ⌝ }
     ensures { λ _. ⌜ now (v .exit) ≡ reordered (reverseBits «log_size») (now (v .entry)) ⌝ }
 {
-    if log_size < 2 {
+    if log_size < 4 {
+        bit_reverse_short(v, log_size);
         return;
     }
-    let half = v.len() / 2;
-    let quarter = v.len() / 4;
-    let mut x: usize = 0;
-    while x < quarter {
-        let y = bit_reverse_index(x as u64, log_size - 2) as usize;
-        swap_block(v, half, x, y);
-        x += 1;
-    }
+    bit_reverse_blocks(v, log_size);
 }
 
 // An even word and the odd one after it.

@@ -3,107 +3,107 @@ use Rattle.orders.proofs.Columns.{block-made}
 use Rattle.orders.proofs.utils.inner.swap_block.Statement.{statement}
 use Rattle.orders.proofs.utils.inner.swap_block.Tie as tie
 
-mul-swap-if-before : tie.Need-mul-swap-if-before
-mul-swap-if-before c = search needs
+mul-swap-row : tie.Need-mul-swap-row
+mul-swap-row c = search needs
 
-mul-swap-if-before-2 : tie.Need-mul-swap-if-before-2
-mul-swap-if-before-2 c = search needs
+mul-swap-row-2 : tie.Need-mul-swap-row-2
+mul-swap-row-2 c = search needs
 
-mul-swap-if-before-3 : tie.Need-mul-swap-if-before-3
-mul-swap-if-before-3 c = search needs
+mul-swap-row-3 : tie.Need-mul-swap-row-3
+mul-swap-row-3 c = search needs
 
-mul-swap-if-before-4 : tie.Need-mul-swap-if-before-4
-mul-swap-if-before-4 c = search needs
+mul-swap-row-4 : tie.Need-mul-swap-row-4
+mul-swap-row-4 c = search needs
 
-swap-if-before-requires : tie.Need-swap-if-before-requires
-swap-if-before-requires c κs = search needs
+swap-row-requires : tie.Need-swap-row-requires
+swap-row-requires c κs = search needs
 
-mul-swap-if-before-5 : tie.Need-mul-swap-if-before-5
-mul-swap-if-before-5 c = search needs
+mul-swap-row-5 : tie.Need-mul-swap-row-5
+mul-swap-row-5 c = search needs
 
-add-swap-if-before : tie.Need-add-swap-if-before
-add-swap-if-before c = search needs
+add-swap-row : tie.Need-add-swap-row
+add-swap-row c = search needs
 
-mul-swap-if-before-6 : tie.Need-mul-swap-if-before-6
-mul-swap-if-before-6 c = search needs
+mul-swap-row-6 : tie.Need-mul-swap-row-6
+mul-swap-row-6 c = search needs
 
-add-swap-if-before-2 : tie.Need-add-swap-if-before-2
-add-swap-if-before-2 c = search needs
+add-swap-row-2 : tie.Need-add-swap-row-2
+add-swap-row-2 c = search needs
 
-mul-swap-if-before-7 : tie.Need-mul-swap-if-before-7
-mul-swap-if-before-7 c = search needs
+mul-swap-row-7 : tie.Need-mul-swap-row-7
+mul-swap-row-7 c = search needs
 
-add-swap-if-before-3 : tie.Need-add-swap-if-before-3
-add-swap-if-before-3 c = search needs
+add-swap-row-3 : tie.Need-add-swap-row-3
+add-swap-row-3 c = search needs
 
-mul-swap-if-before-8 : tie.Need-mul-swap-if-before-8
-mul-swap-if-before-8 c = search needs
+mul-swap-row-8 : tie.Need-mul-swap-row-8
+mul-swap-row-8 c = search needs
 
-add-swap-if-before-4 : tie.Need-add-swap-if-before-4
-add-swap-if-before-4 c = search needs
+add-swap-row-4 : tie.Need-add-swap-row-4
+add-swap-row-4 c = search needs
 
-swap-if-before-requires-2 : tie.Need-swap-if-before-requires-2
-swap-if-before-requires-2 c κs = search needs
+swap-row-requires-2 : tie.Need-swap-row-requires-2
+swap-row-requires-2 c κs = search needs
 
-mul-swap-if-before-9 : tie.Need-mul-swap-if-before-9
-mul-swap-if-before-9 c = search needs
+mul-swap-row-9 : tie.Need-mul-swap-row-9
+mul-swap-row-9 c = search needs
 
-add-swap-if-before-5 : tie.Need-add-swap-if-before-5
-add-swap-if-before-5 c = search needs
+add-swap-row-5 : tie.Need-add-swap-row-5
+add-swap-row-5 c = search needs
 
-mul-swap-if-before-10 : tie.Need-mul-swap-if-before-10
-mul-swap-if-before-10 c = search needs
+mul-swap-row-10 : tie.Need-mul-swap-row-10
+mul-swap-row-10 c = search needs
 
-add-swap-if-before-6 : tie.Need-add-swap-if-before-6
-add-swap-if-before-6 c = search needs
+add-swap-row-6 : tie.Need-add-swap-row-6
+add-swap-row-6 c = search needs
 
-mul-swap-if-before-11 : tie.Need-mul-swap-if-before-11
-mul-swap-if-before-11 c = search needs
+mul-swap-row-11 : tie.Need-mul-swap-row-11
+mul-swap-row-11 c = search needs
 
-add-swap-if-before-7 : tie.Need-add-swap-if-before-7
-add-swap-if-before-7 c = search needs
+mul-swap-row-12 : tie.Need-mul-swap-row-12
+mul-swap-row-12 c = search needs
 
-mul-swap-if-before-12 : tie.Need-mul-swap-if-before-12
-mul-swap-if-before-12 c = search needs
+add-swap-row-7 : tie.Need-add-swap-row-7
+add-swap-row-7 c = search needs
 
-add-swap-if-before-8 : tie.Need-add-swap-if-before-8
-add-swap-if-before-8 c = search needs
+mul-swap-row-13 : tie.Need-mul-swap-row-13
+mul-swap-row-13 c = search needs
 
-swap-if-before-requires-3 : tie.Need-swap-if-before-requires-3
-swap-if-before-requires-3 c κs = search needs
+add-swap-row-8 : tie.Need-add-swap-row-8
+add-swap-row-8 c = search needs
 
-mul-swap-if-before-13 : tie.Need-mul-swap-if-before-13
-mul-swap-if-before-13 c = search needs
+swap-row-requires-3 : tie.Need-swap-row-requires-3
+swap-row-requires-3 c κs = search needs
 
-add-swap-if-before-9 : tie.Need-add-swap-if-before-9
-add-swap-if-before-9 c = search needs
+mul-swap-row-14 : tie.Need-mul-swap-row-14
+mul-swap-row-14 c = search needs
 
-mul-swap-if-before-14 : tie.Need-mul-swap-if-before-14
-mul-swap-if-before-14 c = search needs
+add-swap-row-9 : tie.Need-add-swap-row-9
+add-swap-row-9 c = search needs
 
-add-swap-if-before-10 : tie.Need-add-swap-if-before-10
-add-swap-if-before-10 c = search needs
+mul-swap-row-15 : tie.Need-mul-swap-row-15
+mul-swap-row-15 c = search needs
 
-mul-swap-if-before-15 : tie.Need-mul-swap-if-before-15
-mul-swap-if-before-15 c = search needs
+add-swap-row-10 : tie.Need-add-swap-row-10
+add-swap-row-10 c = search needs
 
-add-swap-if-before-11 : tie.Need-add-swap-if-before-11
-add-swap-if-before-11 c = search needs
+mul-swap-row-16 : tie.Need-mul-swap-row-16
+mul-swap-row-16 c = search needs
 
-add-swap-if-before-12 : tie.Need-add-swap-if-before-12
-add-swap-if-before-12 c = search needs
+mul-swap-row-17 : tie.Need-mul-swap-row-17
+mul-swap-row-17 c = search needs
 
-mul-swap-if-before-16 : tie.Need-mul-swap-if-before-16
-mul-swap-if-before-16 c = search needs
+add-swap-row-11 : tie.Need-add-swap-row-11
+add-swap-row-11 c = search needs
 
-add-swap-if-before-13 : tie.Need-add-swap-if-before-13
-add-swap-if-before-13 c = search needs
+mul-swap-row-18 : tie.Need-mul-swap-row-18
+mul-swap-row-18 c = search needs
 
-add-swap-if-before-14 : tie.Need-add-swap-if-before-14
-add-swap-if-before-14 c = search needs
+add-swap-row-12 : tie.Need-add-swap-row-12
+add-swap-row-12 c = search needs
 
-swap-if-before-requires-4 : tie.Need-swap-if-before-requires-4
-swap-if-before-requires-4 c κs = search needs
+swap-row-requires-4 : tie.Need-swap-row-requires-4
+swap-row-requires-4 c κs = search needs
 
 same-length : tie.Need-same-length
 same-length c = search needs
@@ -111,45 +111,45 @@ same-length c = search needs
 returns : tie.Need-returns
 returns c =
     let args = c .before .before .before .before .before .before .before .before .before .before .before .before .before .before .before .before .before .args in
-    block-made (args .half) (args .x) (args .y) (args .v .now) _ _ _ _ (c .before .before .before .before .before .before .before .before .before .before .before .before .before .before .swap-if-before .ensures) (c .before .before .before .before .before .before .before .before .before .before .swap-if-before2 .ensures) (c .before .before .before .before .before .before .swap-if-before3 .ensures) (c .before .before .swap-if-before4 .ensures)
+    block-made (args .quarter) (args .x) (args .y) (args .v .now) _ _ _ _ (c .before .before .before .before .before .before .before .before .before .before .before .before .before .before .swap-row .ensures) (c .before .before .before .before .before .before .before .before .before .before .swap-row2 .ensures) (c .before .before .before .before .before .before .swap-row3 .ensures) (c .before .before .swap-row4 .ensures)
 
 pub swap-block-spec : {M : Type 1} → statement M
 swap-block-spec =
     tie.close
     (tie.spec
-    mul-swap-if-before
-    mul-swap-if-before-2
-    mul-swap-if-before-3
-    mul-swap-if-before-4
-    swap-if-before-requires
-    mul-swap-if-before-5
-    add-swap-if-before
-    mul-swap-if-before-6
-    add-swap-if-before-2
-    mul-swap-if-before-7
-    add-swap-if-before-3
-    mul-swap-if-before-8
-    add-swap-if-before-4
-    swap-if-before-requires-2
-    mul-swap-if-before-9
-    add-swap-if-before-5
-    mul-swap-if-before-10
-    add-swap-if-before-6
-    mul-swap-if-before-11
-    add-swap-if-before-7
-    mul-swap-if-before-12
-    add-swap-if-before-8
-    swap-if-before-requires-3
-    mul-swap-if-before-13
-    add-swap-if-before-9
-    mul-swap-if-before-14
-    add-swap-if-before-10
-    mul-swap-if-before-15
-    add-swap-if-before-11
-    add-swap-if-before-12
-    mul-swap-if-before-16
-    add-swap-if-before-13
-    add-swap-if-before-14
-    swap-if-before-requires-4
+    mul-swap-row
+    mul-swap-row-2
+    mul-swap-row-3
+    mul-swap-row-4
+    swap-row-requires
+    mul-swap-row-5
+    add-swap-row
+    mul-swap-row-6
+    add-swap-row-2
+    mul-swap-row-7
+    add-swap-row-3
+    mul-swap-row-8
+    add-swap-row-4
+    swap-row-requires-2
+    mul-swap-row-9
+    add-swap-row-5
+    mul-swap-row-10
+    add-swap-row-6
+    mul-swap-row-11
+    mul-swap-row-12
+    add-swap-row-7
+    mul-swap-row-13
+    add-swap-row-8
+    swap-row-requires-3
+    mul-swap-row-14
+    add-swap-row-9
+    mul-swap-row-15
+    add-swap-row-10
+    mul-swap-row-16
+    mul-swap-row-17
+    add-swap-row-11
+    mul-swap-row-18
+    add-swap-row-12
+    swap-row-requires-4
     same-length
     returns)
