@@ -99,6 +99,11 @@ module _ (O : Ops) (L : Laws O) where
       solve O L (p .0 ∷ p .1 ∷ q .0 ∷ q .1 ∷ []) (squares exprs (plus exprs (v0, v1) (v2, v3))) (squares exprs (v0, v1) :* squares exprs (v2, v3)) tt
       ∙ ap₂ (O .mul) h k ∙ L .mul-one (O .one)
 
+  pub on-multiple : (k : ℕ) (p : O .El × O .El) → OnCircle O p → OnCircle O (multiple O k p)
+  unfolding multiple
+  on-multiple zero p h = on-zero
+  on-multiple (suc k) p h = on-plus p (multiple O k p) h (on-multiple k p h)
+
   pub on-conjugate : (p : O .El × O .El) → OnCircle O p → OnCircle O (conjugate O p)
   on-conjugate p h = solve O L (p .0 ∷ p .1 ∷ []) (squares exprs (conjugate exprs (v0, v1))) (squares exprs (v0, v1)) tt ∙ h
 

@@ -1,6 +1,7 @@
 -- Fields, and what holds in every field.
 use mathlib.Core.Path.{_≡_, sym, _∙_, ap, ap₂}
 use mathlib.Core.List.{[], _∷_}
+use mathlib.Core.Logic.{_⊎_, inl, inr}
 use Rattle.algebra.specs.Ring.{Ops, Laws}
 use Rattle.algebra.specs.Ring as R
 use Rattle.algebra.specs.Polynomial.{Expr, _:+_, _:*_, :-_, given, v0, v1, v2, v3}
@@ -14,10 +15,12 @@ pub record Field (O : Ops) : Type 0 where
   pub isZero : (a : O .El) → Dec (a ≡ O .zero)
 
 module _ (O : Ops) (F : Field O) where
-  open Ops O using (El, zero as 𝟘, one as 𝟙, mul as _⊗_)
+  open Ops O using (El, zero as 𝟘, one as 𝟙, add as _⊕_, mul as _⊗_, neg as ⊖_)
   open Field F using (laws as L, inv, mul-inv, one-nonzero, isZero)
 
+  infixl 65 _⊕_
   infixl 70 _⊗_
+  infix 80 ⊖_
   -- no zero divisors: b = (a⁻¹ a) b = a⁻¹ (a b) = 0
   pub zero-factor : (a b : El) → ¬ (a ≡ 𝟘) → a ⊗ b ≡ 𝟘 → b ≡ 𝟘
   zero-factor a b na h =
@@ -29,6 +32,18 @@ module _ (O : Ops) (F : Field O) where
 
   pub square-zero : (a : El) → a ⊗ a ≡ 𝟘 → a ≡ 𝟘
   square-zero a h = elim (isZero a) [ yes z ↦ z | no n ↦ zero-factor a a n h ]
+
+  -- a and b have one square only where a = b or a = - b: (a - b)(a + b) = 0
+  pub square-equal : (a b : El) → a ⊗ a ≡ b ⊗ b → (a ≡ b) ⊎ (a ≡ ⊖ b)
+  square-equal a b h = elim (isZero (a ⊕ ⊖ b)) [
+    | yes z ↦ inl (R.equal-of-sub-zero O L a b z)
+    | no n ↦ inr (solveFrom O L (a ∷ b ∷ []) (given Expr.:1 (v0 :+ v1) Expr.:0 ∷ []) (sum n, tt) v0 (:- v1) tt)
+  ]
+    where
+      sum : ¬ (a ⊕ ⊖ b ≡ 𝟘) → a ⊕ b ≡ 𝟘
+      sum n =
+          zero-factor (a ⊕ ⊖ b) (a ⊕ b) n
+          (solveFrom O L (a ∷ b ∷ []) (given Expr.:1 (v0 :* v0) (v1 :* v1) ∷ []) (h, tt) ((v0 :+ :- v1) :* (v0 :+ v1)) Expr.:0 tt)
 
   pub cancel : (a b c : El) → ¬ (a ≡ 𝟘) → a ⊗ b ≡ a ⊗ c → b ≡ c
   cancel a b c na h =

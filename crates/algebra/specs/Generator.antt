@@ -1,17 +1,21 @@
 -- G = (2, 1268011823) lies on the circle over M31, and its order is exactly 2^31.
 use Prim.Native.Nat.{ℕ, zero, suc, _+_, _-_, _*_, _/_, _%_, _^_, _≤_, _<_}
 use mathlib.Core.Path.{_≡_, refl, sym, _∙_, ap}
+use mathlib.Core.List.{[], _∷_}
 use mathlib.Core.Logic.{_↔_}
 use native.Mathlib.Nat as N
 use native.Mathlib.Omega.{arith}
 use native.Mathlib.Decide.{ℕ-discrete}
 use lib.Dec.{lit<}
 use lib.Pow as W
+use Rattle.algebra.specs.Polynomial.{Expr, :-_, exprs, v0, v1}
+use Rattle.algebra.specs.Solver.{solvePair}
 use Rattle.algebra.specs.Power.{powBySquaring, powBySquaring-ok}
 use Rattle.algebra.specs.ZMod.{Z, residue, zadd, zmul, zneg, residue-injective}
 use Rattle.algebra.specs.M31.{P, P-pos, m31, m31-laws, element}
-use Rattle.algebra.specs.Tower.{cm31, complex-laws}
-use Rattle.algebra.specs.Circle.{zeroPoint, multiple, OnCircle, plus, plus-zero, multiple-pow, multiple-add, multiple-mul, multiple-zeroPoint}
+use Rattle.algebra.specs.Extension.{conjugate}
+use Rattle.algebra.specs.Tower.{complex, cm31, complex-laws}
+use Rattle.algebra.specs.Circle.{zeroPoint, multiple, OnCircle, plus, plus-assoc, plus-comm, plus-zero, multiple-pow, multiple-add, multiple-mul, multiple-zeroPoint, on-multiple, plus-conjugate}
 use Rattle.algebra.specs.Frobenius.{circle-order}
 
 abbrev pub G : Z P × Z P
@@ -33,8 +37,37 @@ half-computed = refl
 pub G-half : multiple m31 (2 ^ 30) G ≡ (m31 .neg (m31 .one), m31 .zero)
 G-half = computed (2 ^ 30) (lit< tt) ∙ half-computed
 
+quarter-computed : powBySquaring cm31 32 G (2 ^ 29) ≡ (m31 .zero, m31 .neg (m31 .one))
+unfolding powBySquaring residue zadd zmul zneg
+quarter-computed = refl
+
+-- 2^29 G = (0, -1)
+pub G-quarter : multiple m31 (2 ^ 29) G ≡ (m31 .zero, m31 .neg (m31 .one))
+G-quarter = computed (2 ^ 29) (lit< tt) ∙ quarter-computed
+
+-- (k + 2^30) G = (-x, -y), where k G = (x, y)
+pub G-antipode : (k : ℕ) → multiple m31 (k + 2 ^ 30) G ≡ cm31 .neg (multiple m31 k G)
+G-antipode k = multiple-add m31 m31-laws k (2 ^ 30) G ∙ ap (plus m31 (multiple m31 k G)) G-half ∙ half-turn (multiple m31 k G)
+  where
+    half-turn : (p : Z P × Z P) → plus m31 p (m31 .neg (m31 .one), m31 .zero) ≡ cm31 .neg p
+    half-turn p = solvePair m31 m31-laws (p .0 ∷ p .1 ∷ []) (plus exprs (v0, v1) (:- Expr.:1, Expr.:0)) (complex exprs .neg (v0, v1)) (tt, tt)
+
 G-whole : multiple m31 (2 ^ 31) G ≡ zeroPoint m31
 G-whole = circle-order G G-on
+
+-- (2^31 - k) G = (x, -y), where k G = (x, y)
+pub G-conjugate : (k : ℕ) → k ≤ 2 ^ 31 → multiple m31 (2 ^ 31 - k) G ≡ conjugate m31 (multiple m31 k G)
+G-conjugate k h =
+    sym (plus-zero m31 m31-laws b) ∙ ap (plus m31 b) (sym (plus-conjugate m31 m31-laws a (on-multiple m31 m31-laws k G G-on)))
+    ∙ sym (plus-assoc m31 m31-laws b a (conjugate m31 a))
+    ∙ ap (λ t. plus m31 t (conjugate m31 a)) (sym (multiple-add m31 m31-laws (2 ^ 31 - k) k G) ∙ ap (λ (t : ℕ). multiple m31 t G) (N.sub-add-cancel h) ∙ G-whole)
+    ∙ plus-comm m31 m31-laws (zeroPoint m31) (conjugate m31 a) ∙ plus-zero m31 m31-laws (conjugate m31 a)
+  where
+    a : Z P × Z P
+    a = multiple m31 k G
+
+    b : Z P × Z P
+    b = multiple m31 (2 ^ 31 - k) G
 
 half-nonzero : ¬ (multiple m31 (2 ^ 30) G ≡ zeroPoint m31)
 unfolding residue zneg

@@ -17,3 +17,4 @@ pub mod Generator
 pub mod Homomorphism
 pub mod Doubling
 pub mod CircleHomomorphism
+pub mod ZeroX

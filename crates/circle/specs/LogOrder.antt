@@ -29,12 +29,12 @@ Words p = PointReduced words31 m31 m31-representation p
 abbrev pub isOneAfter : ℕ → ℕ → Bool
 isOneAfter x n = eqb (iterate n (doubleX words31) x) 1
 
-doubled-x-below : (n x : ℕ) → x < P → iterate n (doubleX words31) x < P
+pub doubled-x-below : (n x : ℕ) → x < P → iterate n (doubleX words31) x < P
 unfolding iterate
 doubled-x-below zero x h = h
 doubled-x-below (suc n) x h = doubled-x-below n (doubleX words31 x) (m31-representation .add-reduced _ _)
 
-to-doubled-x : (n x : ℕ) → element (iterate n (doubleX words31) x) ≡ iterate n (doubleX m31) (element x)
+pub to-doubled-x : (n x : ℕ) → element (iterate n (doubleX words31) x) ≡ iterate n (doubleX m31) (element x)
 unfolding iterate
 to-doubled-x zero x = refl
 to-doubled-x (suc n) x = to-doubled-x n (doubleX words31 x) ∙ ap (iterate n (doubleX m31)) (to-doubleX words31 m31 element element-homomorphism x)
@@ -103,7 +103,7 @@ module _ (p : ℕ × ℕ) (h : Words p) (on : OnCircle words31 p) where
       (sym (ap (λ t. t .0) (to-doubled n)) ∙ ap element e))
 
   -- and x is doubled alone
-  doubled-x : (n : ℕ) → doubled n p .0 ≡ iterate n (doubleX words31) (p .0)
+  pub doubled-x : (n : ℕ) → doubled n p .0 ≡ iterate n (doubleX words31) (p .0)
   doubled-x n =
       m31-representation .injective (doubled n p .0) (iterate n (doubleX words31) (p .0)) (doublings-reduced words31 m31 m31-representation n p h .0)
       (doubled-x-below n (p .0) (h .0))

@@ -1,0 +1,44 @@
+use mathlib.Core.Path.{_∙_, ap}
+use borrow.Author.Needs.{needs}
+use Rattle.circle.specs.Index.{indexPoint}
+use Rattle.circle.proofs.Answers.{points}
+use Rattle.fields.proofs.Answers.{answers}
+use Rattle.domains.specs.Coset.{atAnswer}
+use Rattle.domains.proofs.Records.{at-refused, index-fits, fits, records}
+use Rattle.domains.proofs.coset.Coset.at.Statement.{statement}
+use Rattle.domains.proofs.coset.Coset.at.Tie as tie
+
+check-requires : tie.Need-check-requires
+check-requires c κs = search needs
+
+enum-known-record : tie.Need-enum-known-record
+enum-known-record c = search needs
+
+returns : tie.Need-returns
+unfolding atAnswer
+returns c = at-refused _ _ _ _ _ (c .before .before .before .check .ensures) (c .before .«record» .given .1)
+
+enum-told : tie.Need-enum-told
+enum-told c = search needs
+
+index-at-requires : tie.Need-index-at-requires
+index-at-requires c κs = let f = fits _ _ (c .before .before .check .ensures) (c .enum-told .given .1) in search needs
+
+to-point-requires : tie.Need-to-point-requires
+to-point-requires c κs = index-fits _ _ _ (c .index-at .ensures)
+
+returns-2 : tie.Need-returns-2
+unfolding atAnswer
+returns-2 c = let e = c .to-point .ensures .0 ∙ ap indexPoint (c .before .index-at .ensures) in search (answers, records, points, needs)
+
+pub at-spec : {M : Type 1} → statement M
+at-spec =
+    tie.close
+    (tie.spec
+    check-requires
+    enum-known-record
+    returns
+    enum-told
+    index-at-requires
+    to-point-requires
+    returns-2)

@@ -1,0 +1,31 @@
+use borrow.Author.Needs.{needs}
+use Rattle.fields.proofs.Answers.{answers}
+use Rattle.domains.specs.Coset.{conjugateAnswer}
+use Rattle.domains.proofs.Records.{at-refused, fits, records}
+use Rattle.domains.proofs.coset.Coset.conjugate.Statement.{statement}
+use Rattle.domains.proofs.coset.Coset.conjugate.Tie as tie
+
+check-requires : tie.Need-check-requires
+check-requires c κs = search needs
+
+enum-known-record : tie.Need-enum-known-record
+enum-known-record c = search needs
+
+returns : tie.Need-returns
+unfolding conjugateAnswer
+returns c = at-refused _ _ _ _ _ (c .before .before .before .check .ensures) (c .before .«record» .given .1)
+
+enum-told : tie.Need-enum-told
+enum-told c = search needs
+
+conjugate-requires : tie.Need-conjugate-requires
+conjugate-requires c κs = let f = fits _ _ (c .before .before .check .ensures) (c .enum-told .given .1) in search needs
+
+returns-2 : tie.Need-returns-2
+unfolding conjugateAnswer
+returns-2 c = search (answers, records, needs)
+
+pub conjugate-spec : {M : Type 1} → statement M
+conjugate-spec =
+    tie.close
+    (tie.spec check-requires enum-known-record returns enum-told conjugate-requires returns-2)

@@ -1,0 +1,31 @@
+use borrow.Author.Needs.{needs}
+use Rattle.fields.proofs.Answers.{answers}
+use Rattle.domains.specs.Coset.{iterIndicesAnswer}
+use Rattle.domains.proofs.Records.{at-refused, fits, records}
+use Rattle.domains.proofs.coset.Coset.iter_indices.Statement.{statement}
+use Rattle.domains.proofs.coset.Coset.iter_indices.Tie as tie
+
+check-requires : tie.Need-check-requires
+check-requires c κs = search needs
+
+enum-known-record : tie.Need-enum-known-record
+enum-known-record c = search needs
+
+returns : tie.Need-returns
+unfolding iterIndicesAnswer
+returns c = at-refused _ _ _ _ _ (c .before .before .before .check .ensures) (c .before .«record» .given .1)
+
+enum-told : tie.Need-enum-told
+enum-told c = search needs
+
+iter-indices-requires : tie.Need-iter-indices-requires
+iter-indices-requires c κs = let f = fits _ _ (c .before .before .check .ensures) (c .enum-told .given .1) in search needs
+
+returns-2 : tie.Need-returns-2
+unfolding iterIndicesAnswer
+returns-2 c = search (answers, records, needs)
+
+pub iter-indices-spec : {M : Type 1} → statement M
+iter-indices-spec =
+    tie.close
+    (tie.spec check-requires enum-known-record returns enum-told iter-indices-requires returns-2)

@@ -1,0 +1,76 @@
+-- What each call of canonic cosets answers: the refusals of document 01's table in its order, then its formulas.
+use Prim.Native.Nat.{ℕ, _+_, _-_, _^_}
+use mathlib.Core.Bool.{Bool, cond, _&&_}
+use lib.Dec.{leb}
+use Rattle.fields.specs.declared.refusal.Refusal.the-variants.{LogSize}
+use Rattle.fields.specs.declared.answer.U64Answer.{U64Answer}
+use Rattle.fields.specs.declared.answer.U64Answer.the-variants as L
+use Rattle.fields.specs.declared.answer.U32Answer.{U32Answer}
+use Rattle.fields.specs.declared.answer.U32Answer.the-variants as U
+use Rattle.circle.specs.Point.{ofPoint}
+use Rattle.circle.specs.Index.{ofIndex, indexPoint}
+use Rattle.circle.specs.declared.point.CirclePointAnswer.{CirclePointAnswer}
+use Rattle.circle.specs.declared.point.CirclePointAnswer.the-variants as P
+use Rattle.circle.specs.declared.index.CirclePointIndexAnswer.{CirclePointIndexAnswer}
+use Rattle.circle.specs.declared.index.CirclePointIndexAnswer.the-variants as I
+use Rattle.domains.specs.declared.record.Check.{Check}
+use Rattle.domains.specs.declared.coset.Coset.{Coset}
+use Rattle.domains.specs.declared.coset.CosetAnswer.{CosetAnswer}
+use Rattle.domains.specs.declared.coset.CosetAnswer.the-variants as C
+use Rattle.domains.specs.declared.canonic.CanonicCoset.{CanonicCoset}
+use Rattle.domains.specs.declared.canonic.CanonicCosetAnswer.{CanonicCosetAnswer}
+use Rattle.domains.specs.declared.canonic.CanonicCosetAnswer.the-variants.{Value, Refused}
+use Rattle.domains.specs.declared.domain.CircleDomainAnswer.{CircleDomainAnswer}
+use Rattle.domains.specs.declared.domain.CircleDomainAnswer.the-variants as D
+use Rattle.domains.specs.Record.{rows, passed}
+use Rattle.domains.specs.Coset.{hasIndices, hasWords, subgroupGen, cosetOf, indexAt}
+use Rattle.domains.specs.Domain.{ofHalf}
+
+-- from 1 to 30
+abbrev pub isLogSize : ℕ → Bool
+isLogSize n = leb 1 n && leb n 30
+
+unfoldable pub check : CanonicCoset → Check
+check c = rows (isLogSize (c .coset .«log_size»)) (hasIndices (c .coset)) (hasWords (c .coset))
+
+-- odds(n)
+unfoldable pub canonicOf : ℕ → CanonicCoset
+canonicOf n = record { coset = cosetOf (subgroupGen (n + 1)) n }
+
+-- half_odds(n - 1)
+unfoldable pub halfOf : ℕ → Coset
+halfOf n = cosetOf (subgroupGen (n - 1 + 2)) (n - 1)
+
+unfoldable pub tryNewAnswer : ℕ → CanonicCosetAnswer
+tryNewAnswer n = cond (isLogSize n) (Value (canonicOf n)) (Refused LogSize)
+
+unfoldable pub cosetAnswer : CanonicCoset → CosetAnswer
+cosetAnswer c = passed (check c) C.Refused (C.Value (c .coset))
+
+-- by the log size alone
+unfoldable pub halfCosetAnswer : CanonicCoset → CosetAnswer
+halfCosetAnswer c = passed (check c) C.Refused (C.Value (halfOf (c .coset .«log_size»)))
+
+unfoldable pub circleDomainAnswer : CanonicCoset → CircleDomainAnswer
+circleDomainAnswer c = passed (check c) D.Refused (D.Value (ofHalf (halfOf (c .coset .«log_size»))))
+
+unfoldable pub logSizeAnswer : CanonicCoset → U32Answer
+logSizeAnswer c = passed (check c) U.Refused (U.Value (c .coset .«log_size»))
+
+unfoldable pub sizeAnswer : CanonicCoset → U64Answer
+sizeAnswer c = passed (check c) L.Refused (L.Value (2 ^ c .coset .«log_size»))
+
+unfoldable pub initialIndexAnswer : CanonicCoset → CirclePointIndexAnswer
+initialIndexAnswer c = passed (check c) I.Refused (I.Value (c .coset .«initial_index»))
+
+unfoldable pub stepSizeAnswer : CanonicCoset → CirclePointIndexAnswer
+stepSizeAnswer c = passed (check c) I.Refused (I.Value (c .coset .«step_size»))
+
+unfoldable pub stepAnswer : CanonicCoset → CirclePointAnswer
+stepAnswer c = passed (check c) P.Refused (P.Value (c .coset .step))
+
+unfoldable pub indexAtAnswer : CanonicCoset → ℕ → CirclePointIndexAnswer
+indexAtAnswer c i = passed (check c) I.Refused (I.Value (ofIndex (indexAt (c .coset) i)))
+
+unfoldable pub atAnswer : CanonicCoset → ℕ → CirclePointAnswer
+atAnswer c i = passed (check c) P.Refused (P.Value (ofPoint (indexPoint (indexAt (c .coset) i))))

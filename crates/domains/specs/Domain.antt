@@ -1,0 +1,80 @@
+-- What each call of circle domains answers: the refusals of document 01's table in its order, then its formulas.
+use Prim.Native.Nat.{ℕ, _+_, _-_, _*_, _%_, _^_}
+use mathlib.Core.Bool.{cond}
+use mathlib.Core.List.{List, _++_}
+use lib.Dec.{ltb, eqb}
+use lib.ListN.{drop}
+use Rattle.fields.specs.declared.refusal.Refusal.the-variants.{Length, Doublings}
+use Rattle.fields.specs.declared.answer.U64Answer.{U64Answer}
+use Rattle.fields.specs.declared.answer.U64Answer.the-variants as L
+use Rattle.fields.specs.declared.answer.U32Answer.{U32Answer}
+use Rattle.fields.specs.declared.answer.U32Answer.the-variants as U
+use Rattle.fields.specs.declared.answer.BoolAnswer.{BoolAnswer}
+use Rattle.fields.specs.declared.answer.BoolAnswer.the-variants as B
+use Rattle.circle.specs.Point.{ofPoint}
+use Rattle.circle.specs.Index.{ofIndex, indexPoint}
+use Rattle.circle.specs.declared.point.CirclePointAnswer.{CirclePointAnswer}
+use Rattle.circle.specs.declared.point.CirclePointAnswer.the-variants as P
+use Rattle.circle.specs.declared.index.CirclePointIndex.{CirclePointIndex}
+use Rattle.circle.specs.declared.index.CirclePointIndexAnswer.{CirclePointIndexAnswer}
+use Rattle.circle.specs.declared.index.CirclePointIndexAnswer.the-variants as I
+use Rattle.domains.specs.declared.coset.Coset.{Coset}
+use Rattle.domains.specs.declared.domain.CircleDomain.{CircleDomain}
+use Rattle.domains.specs.declared.domain.CircleDomainAnswer.{CircleDomainAnswer}
+use Rattle.domains.specs.declared.domain.CircleDomainAnswer.the-variants.{Value, Refused}
+use Rattle.domains.specs.declared.iterator.CircleDomainIndexIterator.{CircleDomainIndexIterator}
+use Rattle.domains.specs.declared.iterator.CircleDomainIndexIteratorAnswer.{CircleDomainIndexIteratorAnswer}
+use Rattle.domains.specs.declared.iterator.CircleDomainIndexIteratorAnswer.the-variants as T
+use Rattle.domains.specs.Record.{passed}
+use Rattle.domains.specs.Listing.{listing, negIndex}
+use Rattle.domains.specs.Coset.{check, checkWithIndex, cosetOf, indexAt, shifted, conjugated, iteratorOf}
+
+abbrev pub ofHalf : Coset → CircleDomain
+ofHalf c = record { «half_coset» = c }
+
+unfoldable pub newAnswer : Coset → CircleDomainAnswer
+newAnswer c = passed (check c) Refused (Value (ofHalf c))
+
+-- 2^32 for a half coset of log size 31
+unfoldable pub sizeAnswer : CircleDomain → U64Answer
+sizeAnswer d = passed (check (d .«half_coset»)) L.Refused (L.Value (2 ^ (d .«half_coset» .«log_size» + 1)))
+
+unfoldable pub logSizeAnswer : CircleDomain → U32Answer
+logSizeAnswer d = passed (check (d .«half_coset»)) U.Refused (U.Value (d .«half_coset» .«log_size» + 1))
+
+-- the half coset's indices, and from its size on the negatives, for any i
+unfoldable pub domainIndexAt : Coset → ℕ → ℕ
+domainIndexAt c i = cond (ltb i (2 ^ c .«log_size»)) (indexAt c i) (negIndex (indexAt c (i - 2 ^ c .«log_size»)))
+
+unfoldable pub indexAtAnswer : CircleDomain → ℕ → CirclePointIndexAnswer
+indexAtAnswer d i = passed (check (d .«half_coset»)) I.Refused (I.Value (ofIndex (domainIndexAt (d .«half_coset») i)))
+
+unfoldable pub atAnswer : CircleDomain → ℕ → CirclePointAnswer
+atAnswer d i = passed (check (d .«half_coset»)) P.Refused (P.Value (ofPoint (indexPoint (domainIndexAt (d .«half_coset») i))))
+
+-- whether 4 times the initial index, reduced, equals the step
+unfoldable pub isCanonicAnswer : CircleDomain → BoolAnswer
+isCanonicAnswer d =
+    passed (check (d .«half_coset»)) B.Refused (B.Value (eqb ((d .«half_coset» .«initial_index» .0 * 4) % 2 ^ 31) (d .«half_coset» .«step_size» .0)))
+
+-- the half coset's iterator, then the conjugate's
+unfoldable pub domainIteratorOf : Coset → CircleDomainIndexIterator
+domainIteratorOf c = record { first = iteratorOf c; second = iteratorOf (conjugated c) }
+
+unfoldable pub iterIndicesAnswer : CircleDomain → CircleDomainIndexIteratorAnswer
+iterIndicesAnswer d = passed (check (d .«half_coset»)) T.Refused (T.Value (domainIteratorOf (d .«half_coset»)))
+
+unfoldable pub shiftAnswer : CircleDomain → CirclePointIndex → CircleDomainAnswer
+shiftAnswer d k = passed (checkWithIndex (d .«half_coset») (k .0)) Refused (Value (ofHalf (shifted (d .«half_coset») (k .0))))
+
+-- into 2^n parts, the shifts into so many words: number 7 for more parts than points, then number 8 for too few words
+unfoldable pub splitAnswer : CircleDomain → ℕ → ℕ → CircleDomainAnswer
+splitAnswer d n words =
+    passed (check (d .«half_coset»)) Refused
+    (cond (ltb (d .«half_coset» .«log_size») n) (Refused Doublings)
+    (cond (ltb words (2 ^ n)) (Refused Length) (Value (ofHalf (cosetOf (d .«half_coset» .«initial_index» .0) (d .«half_coset» .«log_size» - n))))))
+
+-- what a call with this answer leaves in the lent slice: the step times 0, 1, .., reduced
+unfoldable pub splitExit : CircleDomainAnswer → CircleDomain → ℕ → List ℕ → List ℕ
+splitExit (Value part) d n shifts = listing (2 ^ n) (λ i. (d .«half_coset» .«step_size» .0 * i) % 2 ^ 31) ++ drop (2 ^ n) shifts
+splitExit (Refused why) d n shifts = shifts

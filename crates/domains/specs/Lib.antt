@@ -1,0 +1,12 @@
+-- definitions
+pub mod Record
+pub mod Listing
+pub mod Coset
+pub mod Iterator
+pub mod Domain
+pub mod Canonic
+-- laws
+pub mod ListingLaws
+pub mod PointSet
+pub mod BitReversed
+pub mod Doubled
