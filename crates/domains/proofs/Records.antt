@@ -2,10 +2,9 @@
 use Prim.Native.Nat.{ℕ, _-_, _^_, _≤_, _<_}
 use mathlib.Core.Path.{_≡_, refl, sym, _∙_, ap}
 use mathlib.Core.Bool.{Bool, true, false, cond, not, _&&_, and-eq-true-iff}
-use native.Mathlib.Nat.{pow-le-pow-right}
 use native.Mathlib.Omega.{arith}
-use lib.Dec.{leb, ltb, lit<}
-use borrow.Author.Tests.{leb-true, not-false, lt-ltb, le-ltb}
+use lib.Dec.{leb, ltb}
+use borrow.Author.Tests.{leb-true, not-false}
 use Rattle.fields.specs.declared.refusal.Refusal.{Refusal}
 use Rattle.circle.specs.Point.{Reduced, reduced, pointOf, ofPoint}
 use Rattle.circle.specs.Index.{ofIndex}
@@ -21,8 +20,9 @@ use Rattle.domains.specs.declared.domain.CircleDomainAnswer.the-variants
 use Rattle.domains.specs.Record.{rows, passed}
 use Rattle.domains.specs.Coset.{hasLogSize, hasIndices, hasWords, check, checkTwo, checkWithIndex, Fits, indexAt, subgroupGen}
 use Rattle.domains.specs.Listing.{negIndex}
-use Rattle.domains.specs.Domain.{ofHalf, domainIndexAt}
+use Rattle.domains.specs.Domain.{ofHalf, domainIndexAt, index-first, index-second}
 use Rattle.domains.specs.Canonic.{isLogSize}
+use Rattle.domains.specs.CosetLaws.{subgroup-gen-most}
 use Rattle.domains.specs.Canonic as C
 use Rattle.domains.specs.Iterator as T
 use Rattle.domains.specs.declared.iterator.CosetIterator.{CosetIterator}
@@ -165,15 +165,13 @@ iteratorWith k s n = record { cur = k; step = s; remaining = n }
 
 -- a generator of a subgroup is an index
 pub subgroup-gen-fits : (n r : ℕ) → r ≡ subgroupGen n → r ≤ 2 ^ 31
-subgroup-gen-fits n r e = rw e (pow-le-pow-right {n = 2} (lit< tt) {i = 31 - n} {j = 31} (omega arith))
+subgroup-gen-fits n r e = rw e (subgroup-gen-most n)
 
 -- ---- the domain's index on its first half and on its second
 
-pub index-first : (c : Coset) (i r size : ℕ) → size ≡ 2 ^ c .«log_size» → i < size → r ≡ indexAt c i → r ≡ domainIndexAt c i
-unfolding domainIndexAt
-index-first c i r size e h g = rw (lt-ltb i (2 ^ c .«log_size») (omega (arith, e))) g
+pub at-first : (c : Coset) (i r size : ℕ) → size ≡ 2 ^ c .«log_size» → i < size → r ≡ indexAt c i → r ≡ domainIndexAt c i
+at-first c i r size e h g = g ∙ sym (index-first c i (omega (arith, e)))
 
-pub index-second : (c : Coset) (i k r size : ℕ) → size ≡ 2 ^ c .«log_size» → size ≤ i → k ≡ indexAt c (i - size) → r ≡ negIndex k → r ≡ domainIndexAt c i
-unfolding domainIndexAt
-index-second c i k r size e h f g =
-    rw (le-ltb i (2 ^ c .«log_size») (omega (arith, e))) (g ∙ ap negIndex (f ∙ ap (λ (t : ℕ). indexAt c (i - t)) e))
+pub at-second : (c : Coset) (i k r size : ℕ) → size ≡ 2 ^ c .«log_size» → size ≤ i → k ≡ indexAt c (i - size) → r ≡ negIndex k → r ≡ domainIndexAt c i
+at-second c i k r size e h f g =
+    g ∙ ap negIndex (f ∙ ap (λ (t : ℕ). indexAt c (i - t)) e) ∙ sym (index-second c i (omega (arith, e)))

@@ -1,9 +1,11 @@
 -- What each call of circle domains answers: the refusals of document 01's table in its order, then its formulas.
-use Prim.Native.Nat.{ℕ, _+_, _-_, _*_, _%_, _^_}
+use Prim.Native.Nat.{ℕ, _+_, _-_, _*_, _%_, _^_, _≤_, _<_}
+use mathlib.Core.Path.{_≡_}
 use mathlib.Core.Bool.{cond}
 use mathlib.Core.List.{List, _++_}
 use lib.Dec.{ltb, eqb}
 use lib.ListN.{drop}
+use borrow.Author.Tests.{lt-ltb, le-ltb}
 use Rattle.fields.specs.declared.refusal.Refusal.the-variants.{Length, Doublings}
 use Rattle.fields.specs.declared.answer.U64Answer.{U64Answer}
 use Rattle.fields.specs.declared.answer.U64Answer.the-variants as L
@@ -78,3 +80,13 @@ splitAnswer d n words =
 unfoldable pub splitExit : CircleDomainAnswer → CircleDomain → ℕ → List ℕ → List ℕ
 splitExit (Value part) d n shifts = listing (2 ^ n) (λ i. (d .«half_coset» .«step_size» .0 * i) % 2 ^ 31) ++ drop (2 ^ n) shifts
 splitExit (Refused why) d n shifts = shifts
+
+-- ---- laws: the positions are not periodic; from the half coset's size on, every one is on the conjugate's side
+
+pub index-first : (c : Coset) (i : ℕ) → i < 2 ^ c .«log_size» → domainIndexAt c i ≡ indexAt c i
+unfolding domainIndexAt
+index-first c i h = rw (lt-ltb i (2 ^ c .«log_size») h)
+
+pub index-second : (c : Coset) (i : ℕ) → 2 ^ c .«log_size» ≤ i → domainIndexAt c i ≡ negIndex (indexAt c (i - 2 ^ c .«log_size»))
+unfolding domainIndexAt
+index-second c i h = rw (le-ltb i (2 ^ c .«log_size») h)

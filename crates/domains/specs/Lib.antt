@@ -6,7 +6,11 @@ pub mod Iterator
 pub mod Domain
 pub mod Canonic
 -- laws
+pub mod CosetLaws
+pub mod IteratorLaws
 pub mod ListingLaws
 pub mod PointSet
+pub mod CanonicDomain
 pub mod BitReversed
 pub mod Doubled
+pub mod Marked

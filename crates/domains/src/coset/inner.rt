@@ -158,7 +158,8 @@ pub fn is_doubling_of(c: Coset, other: Coset) -> bool
     if other.log_size < c.log_size {
         return false;
     }
-    same(c, repeated_double(other, other.log_size - c.log_size))
+    let doubled = repeated_double(other, other.log_size - c.log_size);
+    same(c, doubled)
 }
 
 pub fn index_at(c: Coset, i: u64) -> u64

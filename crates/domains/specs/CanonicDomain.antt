@@ -1,0 +1,191 @@
+-- The canonic circle domain of log size n as the calls give it: the indices that it lists, in which order, and their points.
+use Prim.Native.Nat.{ℕ, suc, _+_, _-_, _*_, _%_, _^_, _≤_, _<_}
+use mathlib.Core.Path.{_≡_, sym, _∙_, ap, ap₂, subst}
+use mathlib.Core.Bool.{true}
+use native.Mathlib.Nat as N
+use native.Mathlib.Decide.{decLt}
+use native.Mathlib.Omega.{arith}
+use lib.Dec.{leb}
+use lib.Pow as W
+use borrow.Author.Tests.{le-leb}
+use Rattle.fields.specs.declared.answer.U64Answer.the-variants as L
+use Rattle.circle.specs.Point.{ofPoint}
+use Rattle.circle.specs.Index.{ofIndex, indexPoint}
+use Rattle.circle.specs.declared.point.CirclePointAnswer.the-variants as P
+use Rattle.circle.specs.declared.index.CirclePointIndexAnswer.the-variants as I
+use Rattle.domains.specs.declared.record.Check.the-variants.{Passed}
+use Rattle.domains.specs.declared.canonic.CanonicCosetAnswer.the-variants as CA
+use Rattle.domains.specs.declared.domain.CircleDomainAnswer.the-variants as DA
+use Rattle.domains.specs.declared.iterator.CircleDomainIndexIteratorAnswer.the-variants as T
+use Rattle.domains.specs.declared.iterator.CircleDomainStep.the-variants.{Next, Done}
+use Rattle.domains.specs.Record.{passed}
+use Rattle.domains.specs.Listing.{unit, cosetIndex, negIndex, domainIndex}
+use Rattle.domains.specs.Coset.{hasIndices, hasWords, check, Fits, subgroupGen, cosetOf, indexAt, conjugated}
+use Rattle.domains.specs.Iterator.{domainNextAnswer}
+use Rattle.domains.specs.Domain.{ofHalf, sizeAnswer, indexAtAnswer, atAnswer, domainIndexAt, iterIndicesAnswer, domainIteratorOf}
+use Rattle.domains.specs.Canonic.{isLogSize, canonicOf, halfOf, tryNewAnswer, circleDomainAnswer}
+use Rattle.domains.specs.Domain as D
+use Rattle.domains.specs.Canonic as C
+use Rattle.domains.specs.CosetLaws.{both-pass, rows-pass, indices-pass, words-pass, fits-passes, subgroup-gen-most, made-fits, conjugate-index}
+use Rattle.domains.specs.IteratorLaws.{walkedIndex, walked-index, domainSteps, DomainWalk, domain-walk}
+use Rattle.domains.specs.ListingLaws.{two-halves, half-bound, domain-first, domain-second}
+use Rattle.domains.specs.PointSet.{PointSet, point-set}
+
+-- `canonic-domain` proves it for every n from 1 to 30
+pub record CanonicDomain (n : ℕ) : Type 0 where
+  -- CanonicCoset::new(n), and circle_domain of it
+  pub coset : tryNewAnswer n ≡ CA.Value (canonicOf n)
+  pub domain : circleDomainAnswer (canonicOf n) ≡ DA.Value (ofHalf (halfOf n))
+  -- the coset's k-th index is h (2k + 1) modulo 2^31
+  pub cosetIndices : (k : ℕ) → C.indexAtAnswer (canonicOf n) k ≡ I.Value (ofIndex (cosetIndex n k))
+  -- the domain's 2^n indices are h + 4hi, then the negatives, and its points are theirs: size, index_at, at
+  pub size : sizeAnswer (ofHalf (halfOf n)) ≡ L.Value (2 ^ n)
+  pub indices : (i : ℕ) → i < 2 ^ n → indexAtAnswer (ofHalf (halfOf n)) i ≡ I.Value (ofIndex (domainIndex n i))
+  pub points : (i : ℕ) → i < 2 ^ n → atAnswer (ofHalf (halfOf n)) i ≡ P.Value (ofPoint (indexPoint (domainIndex n i)))
+  -- iter_indices hands back the same indices in 2^n steps, then says done, and done again
+  pub iterator : iterIndicesAnswer (ofHalf (halfOf n)) ≡ T.Value (domainIteratorOf (halfOf n))
+  pub steps : (i : ℕ) → i < 2 ^ n
+      → domainNextAnswer (domainSteps i (domainIteratorOf (halfOf n))) ≡ Next (ofIndex (domainIndex n i)) (domainSteps (suc i) (domainIteratorOf (halfOf n)))
+  pub done : (i : ℕ) → 2 ^ n ≤ i → domainNextAnswer (domainSteps i (domainIteratorOf (halfOf n))) ≡ Done (domainSteps (suc i) (domainIteratorOf (halfOf n)))
+  -- the points are all different, and exactly those that document 01 names
+  pub pointSet : PointSet n
+
+-- ---- proof
+
+module _ (n : ℕ) (lo : 1 ≤ n) (hi : n ≤ 30) where
+  log-size-passes : isLogSize n ≡ true
+  log-size-passes = both-pass (leb 1 n) (leb n 30) (le-leb 1 n lo) (le-leb n 30 hi)
+
+  canonic-passes : C.check (canonicOf n) ≡ Passed
+  unfolding C.check canonicOf cosetOf
+  canonic-passes =
+      let f : Fits (cosetOf (subgroupGen (n + 1)) n) = made-fits (subgroupGen (n + 1)) n (subgroup-gen-most (n + 1)) (omega arith) in
+      rows-pass (isLogSize n) (hasIndices (canonicOf n .coset)) (hasWords (canonicOf n .coset)) log-size-passes
+      (indices-pass (cosetOf (subgroupGen (n + 1)) n) f) (words-pass (cosetOf (subgroupGen (n + 1)) n) f)
+
+  half-fits : Fits (halfOf n)
+  unfolding halfOf
+  half-fits = made-fits (subgroupGen (n - 1 + 2)) (n - 1) (subgroup-gen-most (n - 1 + 2)) (omega arith)
+
+  half-passes : check (halfOf n) ≡ Passed
+  half-passes = fits-passes (halfOf n) half-fits
+
+  -- h and 4h
+  initial-unit : halfOf n .«initial_index» .0 ≡ unit n
+  unfolding halfOf cosetOf
+  initial-unit = ap (λ (t : ℕ). 2 ^ t) (omega arith)
+
+  step-unit : halfOf n .«step_size» .0 ≡ 4 * unit n
+  unfolding halfOf cosetOf
+  step-unit =
+      let more : 31 - (n - 1) ≡ suc (suc (30 - n)) = omega arith in
+      ap (λ (t : ℕ). 2 ^ t) more ∙ omega (arith, N.pow-succ' 2 (suc (30 - n)), N.pow-succ' 2 (30 - n))
+
+  half-index : (i : ℕ) → i < 2 ^ (n - 1) → indexAt (halfOf n) i ≡ unit n + 4 * unit n * i
+  unfolding indexAt
+  half-index i h =
+      ap₂ (λ (s t : ℕ). (s + t * i) % 2 ^ 31) initial-unit step-unit ∙ N.mod-eq-of-lt (half-bound n lo hi i h .1)
+
+  -- the first half of the domain, and the second
+  first-index : (i : ℕ) → i < 2 ^ (n - 1) → indexAt (halfOf n) i ≡ domainIndex n i
+  first-index i h = half-index i h ∙ sym (domain-first n lo hi i h)
+
+  second-index : (i : ℕ) → i < 2 ^ (n - 1) → negIndex (indexAt (halfOf n) i) ≡ domainIndex n (2 ^ (n - 1) + i)
+  second-index i h =
+      ap negIndex (half-index i h) ∙ N.mod-eq-of-lt (omega (arith, half-bound n lo hi i h)) ∙ sym (domain-second n lo hi i h)
+
+  index-is : (i : ℕ) → i < 2 ^ n → domainIndexAt (halfOf n) i ≡ domainIndex n i
+  unfolding halfOf cosetOf
+  index-is i h = elim (decLt i (2 ^ (n - 1))) [
+    | yes l ↦ D.index-first (halfOf n) i l ∙ first-index i l
+    | no g ↦ D.index-second (halfOf n) i (omega arith) ∙ second-index (i - 2 ^ (n - 1)) (omega (arith, two-halves n lo hi)) ∙ ap (domainIndex n) (whole g)
+  ]
+    where
+      whole : ¬ (i < 2 ^ (n - 1)) → 2 ^ (n - 1) + (i - 2 ^ (n - 1)) ≡ i
+      whole g = omega arith
+
+  -- ---- the iterator's indices
+
+  walk : DomainWalk (halfOf n)
+  walk = domain-walk (halfOf n) half-fits
+
+  walked-first : (i : ℕ) → i < 2 ^ (n - 1) → walkedIndex (halfOf n) i ≡ domainIndex n i
+  walked-first i h =
+      let start : halfOf n .«initial_index» .0 < 2 ^ 31 = omega (arith, initial-unit, half-bound n lo hi 0 (W.pow-pos (n - 1))) in
+      walked-index (halfOf n) start i ∙ first-index i h
+
+  walked-second : (i : ℕ) → i < 2 ^ (n - 1) → walkedIndex (conjugated (halfOf n)) i ≡ domainIndex n (2 ^ (n - 1) + i)
+  unfolding conjugated
+  walked-second i h =
+      walked-index (conjugated (halfOf n)) (omega arith) i
+      ∙ conjugate-index (halfOf n) i (half-fits .initialIndexFits) (half-fits .stepSizeFits) ∙ second-index i h
+
+  all-steps : (i : ℕ) → i < 2 ^ n
+      → domainNextAnswer (domainSteps i (domainIteratorOf (halfOf n))) ≡ Next (ofIndex (domainIndex n i)) (domainSteps (suc i) (domainIteratorOf (halfOf n)))
+  unfolding halfOf cosetOf
+  all-steps i h = elim (decLt i (2 ^ (n - 1))) [
+    | yes l ↦ walk .first i l ∙ ap (λ (t : ℕ). Next (ofIndex t) (domainSteps (suc i) (domainIteratorOf (halfOf n)))) (walked-first i l)
+    | no g ↦ subst (λ (t : ℕ). domainNextAnswer (domainSteps t (domainIteratorOf (halfOf n))) ≡ Next (ofIndex (domainIndex n t)) (domainSteps (suc t) (domainIteratorOf (halfOf n)))) (whole g)
+        (later (i - 2 ^ (n - 1)) (omega (arith, two-halves n lo hi)))
+  ]
+    where
+      whole : ¬ (i < 2 ^ (n - 1)) → 2 ^ (n - 1) + (i - 2 ^ (n - 1)) ≡ i
+      whole g = omega arith
+
+      later : (j : ℕ) → j < 2 ^ (n - 1) → domainNextAnswer (domainSteps (2 ^ (n - 1) + j) (domainIteratorOf (halfOf n)))
+          ≡ Next (ofIndex (domainIndex n (2 ^ (n - 1) + j))) (domainSteps (suc (2 ^ (n - 1) + j)) (domainIteratorOf (halfOf n)))
+      later j l = walk .second j l ∙ ap (λ (t : ℕ). Next (ofIndex t) (domainSteps (suc (2 ^ (n - 1) + j)) (domainIteratorOf (halfOf n)))) (walked-second j l)
+
+  all-done : (i : ℕ) → 2 ^ n ≤ i → domainNextAnswer (domainSteps i (domainIteratorOf (halfOf n))) ≡ Done (domainSteps (suc i) (domainIteratorOf (halfOf n)))
+  unfolding halfOf cosetOf
+  all-done i h = walk .done i (omega (arith, two-halves n lo hi))
+
+  -- ---- the calls
+
+  made : tryNewAnswer n ≡ CA.Value (canonicOf n)
+  unfolding tryNewAnswer
+  made = rw log-size-passes
+
+  made-domain : circleDomainAnswer (canonicOf n) ≡ DA.Value (ofHalf (halfOf n))
+  unfolding circleDomainAnswer passed canonicOf cosetOf
+  made-domain = rw canonic-passes
+
+  coset-index : (k : ℕ) → C.indexAtAnswer (canonicOf n) k ≡ I.Value (ofIndex (cosetIndex n k))
+  unfolding C.indexAtAnswer passed canonicOf cosetOf indexAt
+  coset-index k = rw canonic-passes (ap (λ (t : ℕ). I.Value (ofIndex (t % 2 ^ 31))) same)
+    where
+      same : 2 ^ (31 - (n + 1)) + 2 ^ (31 - n) * k ≡ unit n * (2 * k + 1)
+      same =
+          let initial : 31 - (n + 1) ≡ 30 - n = omega arith in
+          let step : 31 - n ≡ suc (30 - n) = omega arith in
+          ap₂ (λ (s t : ℕ). 2 ^ s + 2 ^ t * k) initial step ∙ omega (arith, ap (λ (t : ℕ). t * k) (N.pow-succ' 2 (30 - n)))
+
+  domain-size : sizeAnswer (ofHalf (halfOf n)) ≡ L.Value (2 ^ n)
+  unfolding sizeAnswer passed halfOf cosetOf
+  domain-size = rw half-passes (ap (λ (t : ℕ). L.Value (2 ^ t)) (omega arith))
+
+  index-answer : (i : ℕ) → i < 2 ^ n → indexAtAnswer (ofHalf (halfOf n)) i ≡ I.Value (ofIndex (domainIndex n i))
+  unfolding indexAtAnswer passed
+  index-answer i h = rw half-passes (ap (λ (t : ℕ). I.Value (ofIndex t)) (index-is i h))
+
+  point-answer : (i : ℕ) → i < 2 ^ n → atAnswer (ofHalf (halfOf n)) i ≡ P.Value (ofPoint (indexPoint (domainIndex n i)))
+  unfolding atAnswer passed
+  point-answer i h = rw half-passes (ap (λ (t : ℕ). P.Value (ofPoint (indexPoint t))) (index-is i h))
+
+  iterator-answer : iterIndicesAnswer (ofHalf (halfOf n)) ≡ T.Value (domainIteratorOf (halfOf n))
+  unfolding iterIndicesAnswer passed
+  iterator-answer = rw half-passes
+
+pub canonic-domain : (n : ℕ) → 1 ≤ n → n ≤ 30 → CanonicDomain n
+canonic-domain n lo hi = record {
+  coset = made n lo hi;
+  domain = made-domain n lo hi;
+  cosetIndices = coset-index n lo hi;
+  size = domain-size n lo hi;
+  indices = index-answer n lo hi;
+  points = point-answer n lo hi;
+  iterator = iterator-answer n lo hi;
+  steps = all-steps n lo hi;
+  done = all-done n lo hi;
+  pointSet = point-set n lo hi;
+}

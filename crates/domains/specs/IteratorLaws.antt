@@ -1,0 +1,229 @@
+-- Walks of the iterators: as many steps as the size, each with its index, then done, and done again.
+use Prim.Native.Nat.{ℕ, zero, suc, _+_, _-_, _*_, _%_, _^_, _≤_, _<_}
+use mathlib.Core.Path.{_≡_, refl, sym, _∙_, ap, ap₂}
+use mathlib.Core.Bool.{true, false}
+use native.Mathlib.Nat as N
+use native.Mathlib.Omega.{arith}
+use lib.Dec.{eqb}
+use borrow.Author.Tests.{le-leb, eq-eqb, ne-eqb}
+use Rattle.algebra.specs.Doubling.{iterate, iterate-suc}
+use Rattle.circle.specs.Index.{ofIndex}
+use Rattle.domains.specs.declared.coset.Coset.{Coset}
+use Rattle.domains.specs.declared.iterator.CosetIterator.{CosetIterator}
+use Rattle.domains.specs.declared.iterator.CosetStep.{CosetStep}
+use Rattle.domains.specs.declared.iterator.CosetStep.the-variants.{Next, Done, Refused}
+use Rattle.domains.specs.declared.iterator.CircleDomainIndexIterator.{CircleDomainIndexIterator}
+use Rattle.domains.specs.declared.iterator.CircleDomainStep.{CircleDomainStep}
+use Rattle.domains.specs.declared.iterator.CircleDomainStep.the-variants as D
+use Rattle.domains.specs.Coset.{Fits, indexAt, conjugated, iteratorOf}
+use Rattle.domains.specs.CosetLaws.{conjugate-fits}
+use Rattle.domains.specs.Iterator.{hasIndices, advanced, nextAnswer, domainNextAnswer}
+use Rattle.domains.specs.Domain.{domainIteratorOf}
+
+-- the iterator that a step hands back
+unfoldable pub after : CosetIterator → CosetStep → CosetIterator
+after it (Next k rest) = rest
+after it (Done rest) = rest
+after it (Refused why) = it
+
+unfoldable pub domainAfter : CircleDomainIndexIterator → CircleDomainStep → CircleDomainIndexIterator
+domainAfter it (D.Next k rest) = rest
+domainAfter it (D.Done rest) = rest
+domainAfter it (D.Refused why) = it
+
+-- the iterators that so many steps hand back
+abbrev pub steps : ℕ → CosetIterator → CosetIterator
+steps k it = iterate k (λ it. after it (nextAnswer it)) it
+
+abbrev pub domainSteps : ℕ → CircleDomainIndexIterator → CircleDomainIndexIterator
+domainSteps k it = iterate k (λ it. domainAfter it (domainNextAnswer it)) it
+
+-- the k-th index: the first one as it is stored, the others by `index_at`
+unfoldable pub walkedIndex : Coset → ℕ → ℕ
+walkedIndex c zero = c .«initial_index» .0
+walkedIndex c (suc k) = indexAt c (suc k)
+
+-- 2^31 is kept as the first; any other first index is that of `index_at` too
+pub walked-index : (c : Coset) → c .«initial_index» .0 < 2 ^ 31 → (k : ℕ) → walkedIndex c k ≡ indexAt c k
+unfolding walkedIndex indexAt
+walked-index c h zero = omega arith
+walked-index c h (suc k) = refl
+
+-- of a coset that fits: `coset-walk`
+pub record CosetWalk (c : Coset) : Type 0 where
+  pub index : (k : ℕ) → k < 2 ^ c .«log_size» → nextAnswer (steps k (iteratorOf c)) ≡ Next (ofIndex (walkedIndex c k)) (steps (suc k) (iteratorOf c))
+  pub done : (k : ℕ) → 2 ^ c .«log_size» ≤ k → nextAnswer (steps k (iteratorOf c)) ≡ Done (steps (suc k) (iteratorOf c))
+
+-- of a domain whose half coset fits: `domain-walk`
+pub record DomainWalk (c : Coset) : Type 0 where
+  pub first : (k : ℕ) → k < 2 ^ c .«log_size»
+      → domainNextAnswer (domainSteps k (domainIteratorOf c)) ≡ D.Next (ofIndex (walkedIndex c k)) (domainSteps (suc k) (domainIteratorOf c))
+  pub second : (k : ℕ) → k < 2 ^ c .«log_size»
+      → domainNextAnswer (domainSteps (2 ^ c .«log_size» + k) (domainIteratorOf c))
+      ≡ D.Next (ofIndex (walkedIndex (conjugated c) k)) (domainSteps (suc (2 ^ c .«log_size» + k)) (domainIteratorOf c))
+  pub done : (k : ℕ) → 2 * 2 ^ c .«log_size» ≤ k → domainNextAnswer (domainSteps k (domainIteratorOf c)) ≡ D.Done (domainSteps (suc k) (domainIteratorOf c))
+
+-- ---- a walk through known states
+
+module _ {S : Type 0} (f : S → S) (at : ℕ → S) (size : ℕ) (next : (k : ℕ) → k < size → f (at k) ≡ at (suc k)) where
+  pub walked : (k : ℕ) → k ≤ size → iterate k f (at 0) ≡ at k
+  unfolding iterate
+  walked zero h = refl
+  walked (suc k) h = iterate-suc k f (at 0) ∙ ap f (walked k (omega arith)) ∙ next k (omega arith)
+
+  pub ended : f (at size) ≡ at size → (k : ℕ) → iterate (size + k) f (at 0) ≡ at size
+  unfolding iterate
+  ended e zero = ap (λ (t : ℕ). iterate t f (at 0)) (N.add-zero size) ∙ walked size (omega arith)
+  ended e (suc k) = ap (λ (t : ℕ). iterate t f (at 0)) (N.add-suc size k) ∙ iterate-suc (size + k) f (at 0) ∙ ap f (ended e k) ∙ e
+
+-- ---- the coset's iterator
+
+-- its state after k steps, while there are any
+unfoldable stateAt : Coset → ℕ → CosetIterator
+stateAt c k = record { cur = ofIndex (walkedIndex c k); step = c .«step_size»; remaining = 2 ^ c .«log_size» - k }
+
+current : (c : Coset) (k : ℕ) → stateAt c k .cur ≡ ofIndex (walkedIndex c k)
+unfolding stateAt
+current c k = refl
+
+module _ (c : Coset) (f : Fits c) where
+  walked-most : (k : ℕ) → walkedIndex c k ≤ 2 ^ 31
+  unfolding walkedIndex indexAt
+  walked-most zero = f .initialIndexFits
+  walked-most (suc k) = omega arith
+
+  start : iteratorOf c ≡ stateAt c 0
+  unfolding stateAt walkedIndex iteratorOf
+  start = λ i. record { cur = ofIndex (c .«initial_index» .0); step = c .«step_size»; remaining = sym (N.sub-zero (2 ^ c .«log_size»)) i }
+
+  state-passes : (k : ℕ) → hasIndices (stateAt c k) ≡ true
+  unfolding stateAt
+  state-passes k = rw (le-leb (walkedIndex c k) (2 ^ 31) (walked-most k), le-leb (c .«step_size» .0) (2 ^ 31) (f .stepSizeFits))
+
+  further : (k : ℕ) → (walkedIndex c k + c .«step_size» .0) % 2 ^ 31 ≡ walkedIndex c (suc k)
+  unfolding walkedIndex indexAt
+  further zero = omega arith
+  further (suc k) = omega arith
+
+  state-next : (k : ℕ) → k < 2 ^ c .«log_size» → advanced (stateAt c k) ≡ stateAt c (suc k)
+  unfolding advanced stateAt
+  state-next k h =
+      let fewer : 2 ^ c .«log_size» - k - 1 ≡ 2 ^ c .«log_size» - suc k = omega arith in
+      λ i. record { cur = ofIndex (further k i); step = c .«step_size»; remaining = fewer i }
+
+  some-left : (k : ℕ) → k < 2 ^ c .«log_size» → eqb (stateAt c k .remaining) 0 ≡ false
+  unfolding stateAt
+  some-left k h = ne-eqb (2 ^ c .«log_size» - k) 0 (λ e. omega arith)
+
+  none-left : eqb (stateAt c (2 ^ c .«log_size») .remaining) 0 ≡ true
+  unfolding stateAt
+  none-left = eq-eqb (2 ^ c .«log_size» - 2 ^ c .«log_size») 0 (omega arith)
+
+  state-step : (k : ℕ) → k < 2 ^ c .«log_size» → nextAnswer (stateAt c k) ≡ Next (ofIndex (walkedIndex c k)) (stateAt c (suc k))
+  unfolding nextAnswer
+  state-step k h = rw (state-passes k, some-left k h) (λ i. Next (current c k i) (state-next k h i))
+
+  state-done : nextAnswer (stateAt c (2 ^ c .«log_size»)) ≡ Done (stateAt c (2 ^ c .«log_size»))
+  unfolding nextAnswer
+  state-done = rw (state-passes (2 ^ c .«log_size»), none-left)
+
+  state-after : (k : ℕ) → k < 2 ^ c .«log_size» → after (stateAt c k) (nextAnswer (stateAt c k)) ≡ stateAt c (suc k)
+  unfolding after
+  state-after k h = ap (after (stateAt c k)) (state-step k h)
+
+  state-stays : after (stateAt c (2 ^ c .«log_size»)) (nextAnswer (stateAt c (2 ^ c .«log_size»))) ≡ stateAt c (2 ^ c .«log_size»)
+  unfolding after
+  state-stays = ap (after (stateAt c (2 ^ c .«log_size»))) state-done
+
+  steps-state : (k : ℕ) → k ≤ 2 ^ c .«log_size» → steps k (iteratorOf c) ≡ stateAt c k
+  steps-state k h = ap (steps k) start ∙ walked (λ it. after it (nextAnswer it)) (stateAt c) (2 ^ c .«log_size») state-after k h
+
+  steps-ended : (k : ℕ) → 2 ^ c .«log_size» ≤ k → steps k (iteratorOf c) ≡ stateAt c (2 ^ c .«log_size»)
+  steps-ended k h =
+      let more : k ≡ 2 ^ c .«log_size» + (k - 2 ^ c .«log_size») = omega arith in
+      ap₂ steps more start ∙ ended (λ it. after it (nextAnswer it)) (stateAt c) (2 ^ c .«log_size») state-after state-stays (k - 2 ^ c .«log_size»)
+
+  pub coset-walk : CosetWalk c
+  coset-walk = record {
+    index = λ k h. ap nextAnswer (steps-state k (omega arith)) ∙ state-step k h ∙ ap (Next (ofIndex (walkedIndex c k))) (sym (steps-state (suc k) h));
+    done = λ k h. ap nextAnswer (steps-ended k h) ∙ state-done ∙ ap Done (sym (steps-ended (suc k) (omega arith)));
+  }
+
+-- ---- the domain's iterator
+
+abbrev pair : CosetIterator → CosetIterator → CircleDomainIndexIterator
+pair s t = record { first = s; second = t }
+
+iterate-add : {S : Type 0} (m n : ℕ) (f : S → S) (a : S) → iterate (m + n) f a ≡ iterate n f (iterate m f a)
+unfolding iterate
+iterate-add zero n f a = ap (λ (t : ℕ). iterate t f a) (N.zero-add n)
+iterate-add (suc m) n f a = ap (λ (t : ℕ). iterate t f a) (N.suc-add m n) ∙ iterate-add m n f (f a)
+
+module _ (c : Coset) (f : Fits c) where
+  g : Fits (conjugated c)
+  g = conjugate-fits c (f .logSizeFits)
+
+  -- while the half coset's iterator has steps left, and then the conjugate's
+  abbrev firstAt : ℕ → CircleDomainIndexIterator
+  firstAt k = pair (stateAt c k) (stateAt (conjugated c) 0)
+
+  abbrev secondAt : ℕ → CircleDomainIndexIterator
+  secondAt k = pair (stateAt c (2 ^ c .«log_size»)) (stateAt (conjugated c) k)
+
+  abbrev move : CircleDomainIndexIterator → CircleDomainIndexIterator
+  move it = domainAfter it (domainNextAnswer it)
+
+  first-step : (k : ℕ) → k < 2 ^ c .«log_size» → domainNextAnswer (firstAt k) ≡ D.Next (ofIndex (walkedIndex c k)) (firstAt (suc k))
+  unfolding domainNextAnswer walkedIndex
+  first-step k h = rw (state-passes c f k, state-passes (conjugated c) g 0, some-left c f k h) (λ i. D.Next (current c k i) (pair (state-next c f k h i) (stateAt (conjugated c) 0)))
+
+  second-step : (k : ℕ) → k < 2 ^ c .«log_size» → domainNextAnswer (secondAt k) ≡ D.Next (ofIndex (walkedIndex (conjugated c) k)) (secondAt (suc k))
+  unfolding domainNextAnswer conjugated walkedIndex
+  second-step k h =
+      rw (state-passes c f (2 ^ c .«log_size»), state-passes (conjugated c) g k, none-left c f, some-left (conjugated c) g k h)
+      (λ i. D.Next (current (conjugated c) k i) (pair (stateAt c (2 ^ c .«log_size»)) (state-next (conjugated c) g k h i)))
+
+  last-step : domainNextAnswer (secondAt (2 ^ c .«log_size»)) ≡ D.Done (secondAt (2 ^ c .«log_size»))
+  unfolding domainNextAnswer conjugated
+  last-step = rw (state-passes c f (2 ^ c .«log_size»), state-passes (conjugated c) g (2 ^ c .«log_size»), none-left c f, none-left (conjugated c) g)
+
+  first-move : (k : ℕ) → k < 2 ^ c .«log_size» → move (firstAt k) ≡ firstAt (suc k)
+  unfolding domainAfter
+  first-move k h = ap (domainAfter (firstAt k)) (first-step k h)
+
+  second-move : (k : ℕ) → k < 2 ^ c .«log_size» → move (secondAt k) ≡ secondAt (suc k)
+  unfolding domainAfter
+  second-move k h = ap (domainAfter (secondAt k)) (second-step k h)
+
+  last-move : move (secondAt (2 ^ c .«log_size»)) ≡ secondAt (2 ^ c .«log_size»)
+  unfolding domainAfter
+  last-move = ap (domainAfter (secondAt (2 ^ c .«log_size»))) last-step
+
+  begin : domainIteratorOf c ≡ firstAt 0
+  unfolding domainIteratorOf
+  begin = ap₂ pair (start c f) (start (conjugated c) g)
+
+  first-steps : (k : ℕ) → k ≤ 2 ^ c .«log_size» → domainSteps k (domainIteratorOf c) ≡ firstAt k
+  first-steps k h = ap (domainSteps k) begin ∙ walked move firstAt (2 ^ c .«log_size») first-move k h
+
+  -- the first half is walked through
+  half-way : (k : ℕ) → domainSteps (2 ^ c .«log_size» + k) (domainIteratorOf c) ≡ domainSteps k (secondAt 0)
+  half-way k = iterate-add (2 ^ c .«log_size») k move (domainIteratorOf c) ∙ ap (domainSteps k) (first-steps (2 ^ c .«log_size») (omega arith))
+
+  second-steps : (k : ℕ) → k ≤ 2 ^ c .«log_size» → domainSteps (2 ^ c .«log_size» + k) (domainIteratorOf c) ≡ secondAt k
+  second-steps k h = half-way k ∙ walked move secondAt (2 ^ c .«log_size») second-move k h
+
+  all-steps : (k : ℕ) → 2 * 2 ^ c .«log_size» ≤ k → domainSteps k (domainIteratorOf c) ≡ secondAt (2 ^ c .«log_size»)
+  all-steps k h =
+      let more : k ≡ 2 ^ c .«log_size» + (2 ^ c .«log_size» + (k - 2 * 2 ^ c .«log_size»)) = omega arith in
+      ap (λ (t : ℕ). domainSteps t (domainIteratorOf c)) more ∙ half-way (2 ^ c .«log_size» + (k - 2 * 2 ^ c .«log_size»))
+      ∙ ended move secondAt (2 ^ c .«log_size») second-move last-move (k - 2 * 2 ^ c .«log_size»)
+
+  pub domain-walk : DomainWalk c
+  domain-walk = record {
+    first = λ k h. ap domainNextAnswer (first-steps k (omega arith)) ∙ first-step k h ∙ ap (D.Next (ofIndex (walkedIndex c k))) (sym (first-steps (suc k) h));
+    second = λ k h. ap domainNextAnswer (second-steps k (omega arith)) ∙ second-step k h
+        ∙ ap (D.Next (ofIndex (walkedIndex (conjugated c) k)))
+        (sym (ap (λ (t : ℕ). domainSteps t (domainIteratorOf c)) (sym (N.add-suc (2 ^ c .«log_size») k)) ∙ second-steps (suc k) h));
+    done = λ k h. ap domainNextAnswer (all-steps k h) ∙ last-step ∙ ap D.Done (sym (all-steps (suc k) (omega arith)));
+  }

@@ -1,0 +1,147 @@
+-- The cases that document 01 marks, over the definitions that the contracts cite.
+use Prim.Native.Nat.{ℕ, _-_, _*_, _^_, _<_}
+use mathlib.Core.Path.{_≡_, refl, sym, _∙_, ap}
+use mathlib.Core.Bool.{false}
+use mathlib.Core.List.{[], _∷_, map}
+use native.Mathlib.Omega.{arith}
+use lib.Dec.{lit<, lit≤}
+use borrow.Author.Tests.{lt-leb, ne-eqb}
+use lib.IntN.{negsuc}
+use Rattle.algebra.specs.M31.{P}
+use Rattle.algebra.specs.Circle.{multiple}
+use Rattle.algebra.specs.Doubling.{iterate}
+use Rattle.fields.specs.M31.{ofWord, reduceAnswer, residueOf, mulAnswer, inverseAnswer}
+use Rattle.fields.specs.CM31.{ofPair}
+use Rattle.fields.specs.CM31 as C
+use Rattle.fields.specs.QM31.{ofPairs}
+use Rattle.fields.specs.QM31 as Q
+use Rattle.fields.specs.Words.{mulP, words31}
+use Rattle.fields.specs.Inverse.{m31-inverse-unique}
+use Rattle.fields.specs.declared.m31.M31Answer.the-variants.{Value}
+use Rattle.fields.specs.declared.cm31.CM31Answer.the-variants as CA
+use Rattle.fields.specs.declared.qm31.QM31Answer.the-variants as QA
+use Rattle.fields.specs.declared.answer.BoolAnswer.the-variants as B
+use Rattle.fields.specs.declared.answer.U64Answer.the-variants as U
+use Rattle.circle.specs.Point.{ofPoint}
+use Rattle.circle.specs.Formulas.{antipode}
+use Rattle.circle.specs.IndexPoints.{index-antipode}
+use Rattle.circle.specs.Index.{ofIndex, indexPoint, toPointAnswer}
+use Rattle.circle.specs.declared.point.CirclePointAnswer.the-variants as P
+use Rattle.orders.specs.BitReverse.{reverseBits}
+use Rattle.orders.specs.Orders.{reordered, wordsAt, cosetBitReversed, toDomain, offsetAnswer, offsetElement, previousAnswer}
+use Rattle.domains.specs.declared.coset.CosetAnswer.the-variants as K
+use Rattle.domains.specs.declared.domain.CircleDomainAnswer.the-variants as D
+use Rattle.domains.specs.Listing.{listing, unit, cosetIndex, domainIndices}
+use Rattle.domains.specs.Record.{passed}
+use Rattle.domains.specs.Coset.{cosetOf, newAnswer, subgroupAnswer, doubled, sameCoset, isDoublingOf, isDoublingOfAnswer}
+use Rattle.domains.specs.CosetLaws.{fits-passes, two-pass, made-fits}
+use Rattle.domains.specs.CanonicDomain.{canonic-domain}
+use Rattle.domains.specs.Domain.{ofHalf, isCanonicAnswer}
+use Rattle.domains.specs.Canonic.{canonicOf, halfOf, circleDomainAnswer}
+
+-- ---- M31
+
+-- `reduce` accepts P^2 - 1 and gives P - 1
+pub reduce-most : reduceAnswer (P * P - 1) ≡ Value (ofWord (P - 1))
+unfolding reduceAnswer
+reduce-most = refl
+
+-- i32 -2^31 gives P - 1
+pub least-i32 : residueOf (negsuc (2 ^ 31 - 1)) ≡ P - 1
+least-i32 = refl
+
+-- (P - 1) times (P - 1) is 1
+pub minus-one-squared : mulAnswer (ofWord (P - 1)) (ofWord (P - 1)) ≡ Value (ofWord 1)
+unfolding mulAnswer
+minus-one-squared = refl
+
+the-inverse : (a b : ℕ) → a < P → ¬ (a ≡ 0) → b < P → mulP a b ≡ 1 → inverseAnswer (ofWord a) ≡ Value (ofWord b)
+unfolding inverseAnswer
+the-inverse a b h n l e = rw (lt-leb P a h, ne-eqb a 0 n) (ap (λ (t : ℕ). Value (ofWord t)) (sym (m31-inverse-unique a b l e)))
+
+-- the inverse of 2 is 1073741824
+pub inverse-of-two : inverseAnswer (ofWord 2) ≡ Value (ofWord 1073741824)
+inverse-of-two = the-inverse 2 1073741824 (lit< tt) (λ e. omega arith) (lit< tt) refl
+
+-- ---- indices
+
+-- 2G = (7, 777079998)
+pub twice-generator : toPointAnswer (ofIndex 2) ≡ P.Value (ofPoint (7, 777079998))
+unfolding toPointAnswer multiple
+twice-generator = refl
+
+zero-index : indexPoint 0 ≡ (1, 0)
+unfolding multiple
+zero-index = refl
+
+-- 2^30 G = (P - 1, 0)
+pub half-turn : toPointAnswer (ofIndex (2 ^ 30)) ≡ P.Value (ofPoint (P - 1, 0))
+unfolding toPointAnswer
+half-turn = ap (λ (p : ℕ × ℕ). P.Value (ofPoint p)) (index-antipode 0 ∙ ap (antipode words31) zero-index)
+
+-- ---- cosets and domains
+
+-- `is_doubling_of`: `subgroup(0)` against `subgroup(1)` is false, step 2^31 against 0
+pub subgroup-zero : subgroupAnswer 0 ≡ K.Value (cosetOf 0 0)
+unfolding subgroupAnswer newAnswer
+subgroup-zero = refl
+
+pub subgroup-one : subgroupAnswer 1 ≡ K.Value (cosetOf 0 1)
+unfolding subgroupAnswer newAnswer
+subgroup-one = refl
+
+steps-differ : isDoublingOf (cosetOf 0 0) (cosetOf 0 1) ≡ false
+unfolding isDoublingOf sameCoset iterate doubled cosetOf
+steps-differ = refl
+
+pub no-doubling : isDoublingOfAnswer (cosetOf 0 0) (cosetOf 0 1) ≡ B.Value false
+unfolding isDoublingOfAnswer passed
+no-doubling =
+    rw (two-pass (cosetOf 0 0) (cosetOf 0 1) (made-fits 0 0 (lit≤ tt) (lit≤ tt)) (made-fits 0 1 (lit≤ tt) (lit≤ tt)))
+    (ap B.Value steps-differ)
+
+-- n = 3, in units of h
+pub coset-three : listing (2 ^ 3) (cosetIndex 3) ≡ map (λ k. unit 3 * k) (1 ∷ 3 ∷ 5 ∷ 7 ∷ 9 ∷ 11 ∷ 13 ∷ 15 ∷ [])
+unfolding listing
+coset-three = refl
+
+pub domain-three : domainIndices 3 ≡ map (λ k. unit 3 * k) (1 ∷ 5 ∷ 9 ∷ 13 ∷ 15 ∷ 11 ∷ 7 ∷ 3 ∷ [])
+unfolding domainIndices listing
+domain-three = refl
+
+-- `is_canonic` of the canonic domain of log size 1 is false, 0 against 2^31
+pub domain-one : circleDomainAnswer (canonicOf 1) ≡ D.Value (ofHalf (halfOf 1))
+domain-one = canonic-domain 1 (lit≤ tt) (lit≤ tt) .domain
+
+pub not-canonic : isCanonicAnswer (ofHalf (halfOf 1)) ≡ B.Value false
+unfolding isCanonicAnswer passed halfOf cosetOf
+not-canonic = rw (fits-passes (cosetOf (2 ^ 29) 0) (made-fits (2 ^ 29) 0 (lit≤ tt) (lit≤ tt)))
+
+-- ---- orders
+
+-- `bit_reverse`: 0..7 becomes 0 4 2 6 1 5 3 7
+pub bits-of-eight : reordered (reverseBits 3) (0 ∷ 1 ∷ 2 ∷ 3 ∷ 4 ∷ 5 ∷ 6 ∷ 7 ∷ []) ≡ 0 ∷ 4 ∷ 2 ∷ 6 ∷ 1 ∷ 5 ∷ 3 ∷ 7 ∷ []
+unfolding wordsAt reverseBits
+bits-of-eight = refl
+
+-- `bit_reverse_coset_to_circle_domain_order`: 0..7 becomes 0 7 4 3 2 5 6 1
+pub coset-bits-of-eight : reordered (cosetBitReversed 3) (0 ∷ 1 ∷ 2 ∷ 3 ∷ 4 ∷ 5 ∷ 6 ∷ 7 ∷ []) ≡ 0 ∷ 7 ∷ 4 ∷ 3 ∷ 2 ∷ 5 ∷ 6 ∷ 1 ∷ []
+unfolding wordsAt cosetBitReversed reverseBits toDomain
+coset-bits-of-eight = refl
+
+-- previous of 0 with domain 2, eval 3 is 6
+pub previous-of-zero : previousAnswer 0 2 3 ≡ U.Value 6
+unfolding previousAnswer offsetAnswer offsetElement reverseBits
+previous-of-zero = refl
+
+-- ---- extensions
+
+-- (1 + 2i)(3 + 4i) = (P - 5) + 10i
+pub complex-product : C.mulAnswer (ofPair (1, 2)) (ofPair (3, 4)) ≡ CA.Value (ofPair (P - 5, 10))
+unfolding C.mulAnswer
+complex-product = refl
+
+-- u times u = 2 + i
+pub u-squared : Q.mulAnswer (ofPairs ((0, 0), (1, 0))) (ofPairs ((0, 0), (1, 0))) ≡ QA.Value (ofPairs ((2, 1), (0, 0)))
+unfolding Q.mulAnswer
+u-squared = refl
