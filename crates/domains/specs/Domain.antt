@@ -83,10 +83,10 @@ splitExit (Refused why) d n shifts = shifts
 
 -- ---- laws: the positions are not periodic; from the half coset's size on, every one is on the conjugate's side
 
-pub index-first : (c : Coset) (i : ℕ) → i < 2 ^ c .«log_size» → domainIndexAt c i ≡ indexAt c i
-unfolding domainIndexAt
-index-first c i h = rw (lt-ltb i (2 ^ c .«log_size») h)
-
 pub index-second : (c : Coset) (i : ℕ) → 2 ^ c .«log_size» ≤ i → domainIndexAt c i ≡ negIndex (indexAt c (i - 2 ^ c .«log_size»))
 unfolding domainIndexAt
 index-second c i h = rw (le-ltb i (2 ^ c .«log_size») h)
+
+pub index-first : (c : Coset) (i : ℕ) → i < 2 ^ c .«log_size» → domainIndexAt c i ≡ indexAt c i
+unfolding domainIndexAt
+index-first c i h = rw (lt-ltb i (2 ^ c .«log_size») h)

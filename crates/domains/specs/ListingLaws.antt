@@ -36,7 +36,7 @@ module _ (n : ℕ) (lo : 1 ≤ n) (hi : n ≤ 30) where
   half-bound i h = omega (arith, W.pow-pos (30 - n), unit-half, N.mul-le-mul-left (unit n) h)
 
   half-length : length (halfIndices n) ≡ 2 ^ (n - 1)
-  half-length = listing-length (2 ^ (n - 1)) (λ i. unit n + 4 * unit n * i)
+  half-length = listing-length (2 ^ (n - 1)) _
 
   pub domain-length : length (domainIndices n) ≡ 2 ^ n
   unfolding domainIndices

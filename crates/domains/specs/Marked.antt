@@ -2,11 +2,12 @@
 use Prim.Native.Nat.{ℕ, _-_, _*_, _^_, _<_}
 use mathlib.Core.Path.{_≡_, refl, sym, _∙_, ap}
 use mathlib.Core.Bool.{false}
-use mathlib.Core.List.{[], _∷_, map}
+use mathlib.Core.List.{List, [], _∷_, map}
 use native.Mathlib.Omega.{arith}
 use lib.Dec.{lit<, lit≤}
 use borrow.Author.Tests.{lt-leb, ne-eqb}
 use lib.IntN.{negsuc}
+use lib.ListN.{length}
 use Rattle.algebra.specs.M31.{P}
 use Rattle.algebra.specs.Circle.{multiple}
 use Rattle.algebra.specs.Doubling.{iterate}
@@ -15,6 +16,7 @@ use Rattle.fields.specs.CM31.{ofPair}
 use Rattle.fields.specs.CM31 as C
 use Rattle.fields.specs.QM31.{ofPairs}
 use Rattle.fields.specs.QM31 as Q
+use Rattle.fields.specs.Search.{first}
 use Rattle.fields.specs.Words.{mulP, words31}
 use Rattle.fields.specs.Inverse.{m31-inverse-unique}
 use Rattle.fields.specs.declared.m31.M31Answer.the-variants.{Value}
@@ -28,7 +30,7 @@ use Rattle.circle.specs.IndexPoints.{index-antipode}
 use Rattle.circle.specs.Index.{ofIndex, indexPoint, toPointAnswer}
 use Rattle.circle.specs.declared.point.CirclePointAnswer.the-variants as P
 use Rattle.orders.specs.BitReverse.{reverseBits}
-use Rattle.orders.specs.Orders.{reordered, wordsAt, cosetBitReversed, toDomain, offsetAnswer, offsetElement, previousAnswer}
+use Rattle.orders.specs.Orders.{logSize, inPlaceAnswer, inPlaceExit, wordsAt, cosetBitReversed, toDomain, offsetAnswer, offsetElement, previousAnswer}
 use Rattle.domains.specs.declared.coset.CosetAnswer.the-variants as K
 use Rattle.domains.specs.declared.domain.CircleDomainAnswer.the-variants as D
 use Rattle.domains.specs.Listing.{listing, unit, cosetIndex, domainIndices}
@@ -47,7 +49,7 @@ unfolding reduceAnswer
 reduce-most = refl
 
 -- i32 -2^31 gives P - 1
-pub least-i32 : residueOf (negsuc (2 ^ 31 - 1)) ≡ P - 1
+pub least-i32 : ofWord (residueOf (negsuc (2 ^ 31 - 1))) ≡ ofWord (P - 1)
 least-i32 = refl
 
 -- (P - 1) times (P - 1) is 1
@@ -119,14 +121,17 @@ not-canonic = rw (fits-passes (cosetOf (2 ^ 29) 0) (made-fits (2 ^ 29) 0 (lit≤
 
 -- ---- orders
 
+abbrev eight : List ℕ
+eight = 0 ∷ 1 ∷ 2 ∷ 3 ∷ 4 ∷ 5 ∷ 6 ∷ 7 ∷ []
+
 -- `bit_reverse`: 0..7 becomes 0 4 2 6 1 5 3 7
-pub bits-of-eight : reordered (reverseBits 3) (0 ∷ 1 ∷ 2 ∷ 3 ∷ 4 ∷ 5 ∷ 6 ∷ 7 ∷ []) ≡ 0 ∷ 4 ∷ 2 ∷ 6 ∷ 1 ∷ 5 ∷ 3 ∷ 7 ∷ []
-unfolding wordsAt reverseBits
+pub bits-of-eight : inPlaceExit (inPlaceAnswer (length eight)) (reverseBits (logSize (length eight))) eight ≡ 0 ∷ 4 ∷ 2 ∷ 6 ∷ 1 ∷ 5 ∷ 3 ∷ 7 ∷ []
+unfolding inPlaceAnswer inPlaceExit first wordsAt reverseBits
 bits-of-eight = refl
 
 -- `bit_reverse_coset_to_circle_domain_order`: 0..7 becomes 0 7 4 3 2 5 6 1
-pub coset-bits-of-eight : reordered (cosetBitReversed 3) (0 ∷ 1 ∷ 2 ∷ 3 ∷ 4 ∷ 5 ∷ 6 ∷ 7 ∷ []) ≡ 0 ∷ 7 ∷ 4 ∷ 3 ∷ 2 ∷ 5 ∷ 6 ∷ 1 ∷ []
-unfolding wordsAt cosetBitReversed reverseBits toDomain
+pub coset-bits-of-eight : inPlaceExit (inPlaceAnswer (length eight)) (cosetBitReversed (logSize (length eight))) eight ≡ 0 ∷ 7 ∷ 4 ∷ 3 ∷ 2 ∷ 5 ∷ 6 ∷ 1 ∷ []
+unfolding inPlaceAnswer inPlaceExit first wordsAt cosetBitReversed reverseBits toDomain
 coset-bits-of-eight = refl
 
 -- previous of 0 with domain 2, eval 3 is 6
