@@ -20,6 +20,11 @@ typedef struct { uint32_t number; uint64_t position; uint64_t index; } tari_inde
 typedef struct { uint32_t number; uint64_t position; uint32_t value; } tari_u32_reply;
 typedef struct { uint32_t number; uint64_t position; uint64_t value; } tari_u64_reply;
 typedef struct { uint32_t number; uint64_t position; } tari_write_reply;
+typedef struct { uint32_t number; uint64_t position; uint64_t initial_index; uint32_t initial_x; uint32_t initial_y; uint64_t step_index; uint32_t step_x; uint32_t step_y; uint32_t log_size; } tari_coset_reply;
+typedef struct { uint32_t number; uint64_t position; uint64_t cur; uint64_t step; uint64_t remaining; } tari_coset_iterator_reply;
+typedef struct { uint32_t number; uint64_t position; uint32_t done; uint64_t index; uint64_t cur; uint64_t step; uint64_t remaining; } tari_coset_step_reply;
+typedef struct { uint32_t number; uint64_t position; uint64_t first_cur; uint64_t first_step; uint64_t first_remaining; uint64_t second_cur; uint64_t second_step; uint64_t second_remaining; } tari_circle_domain_index_iterator_reply;
+typedef struct { uint32_t number; uint64_t position; uint32_t done; uint64_t index; uint64_t first_cur; uint64_t first_step; uint64_t first_remaining; uint64_t second_cur; uint64_t second_step; uint64_t second_remaining; } tari_circle_domain_step_reply;
 
 /* M31: one word below P = 2147483647. */
 tari_m31_reply tari_m31_partial_reduce(uint32_t val);
@@ -162,5 +167,52 @@ tari_u64_reply tari_coset_index_to_circle_domain_index(uint64_t coset_index, uin
 tari_write_reply tari_bit_reverse_coset_to_circle_domain_order(uint32_t *v, uint64_t v_len);
 tari_write_reply tari_coset_order_to_circle_domain_order(const uint32_t *values, uint64_t values_len, uint32_t *dst, uint64_t dst_len);
 tari_write_reply tari_circle_domain_order_to_coset_order(const uint32_t *values, uint64_t values_len, uint32_t *dst, uint64_t dst_len);
+
+/* Cosets, 2^log_size points: the index and the point of the first one and of the step between them. A point needn't be
+ * that of its index. An iterator is the index to hand back next, the step and how many remain; the reply to its next
+ * step has done 0, the index and the iterator after it, or done 1, index 0 and the iterator as it was. */
+tari_coset_reply tari_coset_new(uint64_t initial_index, uint32_t log_size);
+tari_coset_reply tari_coset_subgroup(uint32_t log_size);
+tari_coset_reply tari_coset_odds(uint32_t log_size);
+tari_coset_reply tari_coset_half_odds(uint32_t log_size);
+tari_u64_reply tari_coset_size(uint64_t initial_index, uint32_t initial_x, uint32_t initial_y, uint64_t step_index, uint32_t step_x, uint32_t step_y, uint32_t log_size);
+tari_u32_reply tari_coset_log_size(uint64_t initial_index, uint32_t initial_x, uint32_t initial_y, uint64_t step_index, uint32_t step_x, uint32_t step_y, uint32_t log_size);
+tari_coset_iterator_reply tari_coset_iter_indices(uint64_t initial_index, uint32_t initial_x, uint32_t initial_y, uint64_t step_index, uint32_t step_x, uint32_t step_y, uint32_t log_size);
+tari_coset_reply tari_coset_double(uint64_t initial_index, uint32_t initial_x, uint32_t initial_y, uint64_t step_index, uint32_t step_x, uint32_t step_y, uint32_t log_size);
+tari_coset_reply tari_coset_repeated_double(uint64_t initial_index, uint32_t initial_x, uint32_t initial_y, uint64_t step_index, uint32_t step_x, uint32_t step_y, uint32_t log_size, uint32_t n_doubles);
+tari_bool_reply tari_coset_is_doubling_of(uint64_t initial_index, uint32_t initial_x, uint32_t initial_y, uint64_t step_index, uint32_t step_x, uint32_t step_y, uint32_t log_size, uint64_t other_initial_index, uint32_t other_initial_x, uint32_t other_initial_y, uint64_t other_step_index, uint32_t other_step_x, uint32_t other_step_y, uint32_t other_log_size);
+tari_point_reply tari_coset_initial(uint64_t initial_index, uint32_t initial_x, uint32_t initial_y, uint64_t step_index, uint32_t step_x, uint32_t step_y, uint32_t log_size);
+tari_index_reply tari_coset_index_at(uint64_t initial_index, uint32_t initial_x, uint32_t initial_y, uint64_t step_index, uint32_t step_x, uint32_t step_y, uint32_t log_size, uint64_t i);
+tari_point_reply tari_coset_at(uint64_t initial_index, uint32_t initial_x, uint32_t initial_y, uint64_t step_index, uint32_t step_x, uint32_t step_y, uint32_t log_size, uint64_t i);
+tari_coset_reply tari_coset_shift(uint64_t initial_index, uint32_t initial_x, uint32_t initial_y, uint64_t step_index, uint32_t step_x, uint32_t step_y, uint32_t log_size, uint64_t shift_size);
+tari_coset_reply tari_coset_conjugate(uint64_t initial_index, uint32_t initial_x, uint32_t initial_y, uint64_t step_index, uint32_t step_x, uint32_t step_y, uint32_t log_size);
+tari_coset_step_reply tari_coset_iterator_next(uint64_t cur, uint64_t step, uint64_t remaining);
+
+/* Canonic cosets, each as its coset, of log size 1 to 30. */
+tari_coset_reply tari_canonic_coset_try_new(uint32_t log_size);
+tari_coset_reply tari_canonic_coset_new(uint32_t log_size);
+tari_coset_reply tari_canonic_coset_coset(uint64_t initial_index, uint32_t initial_x, uint32_t initial_y, uint64_t step_index, uint32_t step_x, uint32_t step_y, uint32_t log_size);
+tari_coset_reply tari_canonic_coset_half_coset(uint64_t initial_index, uint32_t initial_x, uint32_t initial_y, uint64_t step_index, uint32_t step_x, uint32_t step_y, uint32_t log_size);
+tari_coset_reply tari_canonic_coset_circle_domain(uint64_t initial_index, uint32_t initial_x, uint32_t initial_y, uint64_t step_index, uint32_t step_x, uint32_t step_y, uint32_t log_size);
+tari_u32_reply tari_canonic_coset_log_size(uint64_t initial_index, uint32_t initial_x, uint32_t initial_y, uint64_t step_index, uint32_t step_x, uint32_t step_y, uint32_t log_size);
+tari_u64_reply tari_canonic_coset_size(uint64_t initial_index, uint32_t initial_x, uint32_t initial_y, uint64_t step_index, uint32_t step_x, uint32_t step_y, uint32_t log_size);
+tari_index_reply tari_canonic_coset_initial_index(uint64_t initial_index, uint32_t initial_x, uint32_t initial_y, uint64_t step_index, uint32_t step_x, uint32_t step_y, uint32_t log_size);
+tari_index_reply tari_canonic_coset_step_size(uint64_t initial_index, uint32_t initial_x, uint32_t initial_y, uint64_t step_index, uint32_t step_x, uint32_t step_y, uint32_t log_size);
+tari_point_reply tari_canonic_coset_step(uint64_t initial_index, uint32_t initial_x, uint32_t initial_y, uint64_t step_index, uint32_t step_x, uint32_t step_y, uint32_t log_size);
+tari_index_reply tari_canonic_coset_index_at(uint64_t initial_index, uint32_t initial_x, uint32_t initial_y, uint64_t step_index, uint32_t step_x, uint32_t step_y, uint32_t log_size, uint64_t i);
+tari_point_reply tari_canonic_coset_at(uint64_t initial_index, uint32_t initial_x, uint32_t initial_y, uint64_t step_index, uint32_t step_x, uint32_t step_y, uint32_t log_size, uint64_t i);
+
+/* Circle domains, each as its half coset: its points and then their conjugates, 2^(log_size + 1) in all. The iterator
+ * is the half coset's and then the conjugate's. split writes 2^log_parts shifts and answers with the part. */
+tari_coset_reply tari_circle_domain_new(uint64_t initial_index, uint32_t initial_x, uint32_t initial_y, uint64_t step_index, uint32_t step_x, uint32_t step_y, uint32_t log_size);
+tari_circle_domain_index_iterator_reply tari_circle_domain_iter_indices(uint64_t initial_index, uint32_t initial_x, uint32_t initial_y, uint64_t step_index, uint32_t step_x, uint32_t step_y, uint32_t log_size);
+tari_u64_reply tari_circle_domain_size(uint64_t initial_index, uint32_t initial_x, uint32_t initial_y, uint64_t step_index, uint32_t step_x, uint32_t step_y, uint32_t log_size);
+tari_u32_reply tari_circle_domain_log_size(uint64_t initial_index, uint32_t initial_x, uint32_t initial_y, uint64_t step_index, uint32_t step_x, uint32_t step_y, uint32_t log_size);
+tari_point_reply tari_circle_domain_at(uint64_t initial_index, uint32_t initial_x, uint32_t initial_y, uint64_t step_index, uint32_t step_x, uint32_t step_y, uint32_t log_size, uint64_t i);
+tari_index_reply tari_circle_domain_index_at(uint64_t initial_index, uint32_t initial_x, uint32_t initial_y, uint64_t step_index, uint32_t step_x, uint32_t step_y, uint32_t log_size, uint64_t i);
+tari_bool_reply tari_circle_domain_is_canonic(uint64_t initial_index, uint32_t initial_x, uint32_t initial_y, uint64_t step_index, uint32_t step_x, uint32_t step_y, uint32_t log_size);
+tari_coset_reply tari_circle_domain_split(uint64_t initial_index, uint32_t initial_x, uint32_t initial_y, uint64_t step_index, uint32_t step_x, uint32_t step_y, uint32_t log_size, uint32_t log_parts, uint32_t *shifts, uint64_t shifts_len);
+tari_coset_reply tari_circle_domain_shift(uint64_t initial_index, uint32_t initial_x, uint32_t initial_y, uint64_t step_index, uint32_t step_x, uint32_t step_y, uint32_t log_size, uint64_t shift);
+tari_circle_domain_step_reply tari_circle_domain_index_iterator_next(uint64_t first_cur, uint64_t first_step, uint64_t first_remaining, uint64_t second_cur, uint64_t second_step, uint64_t second_remaining);
 
 #endif

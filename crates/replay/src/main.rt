@@ -1,7 +1,10 @@
 // Replays the recorded answers of data/ through the C entry points, and prints how many came out as recorded.
 mod batch_inverse;
+mod canonic_coset;
+mod circle_domain;
 mod cm31;
 mod column_orders;
+mod coset;
 mod index;
 mod line;
 mod m31;
@@ -22,6 +25,9 @@ enum Module {
     SecurePoint,
     Index,
     Orders,
+    Coset,
+    CanonicCoset,
+    CircleDomain,
 }
 
 struct Tally {
@@ -52,6 +58,9 @@ fn called(which: Module, name: &[u8], row: row::Row) -> row::Reply {
         Module::SecurePoint => secure_point::called(name, row),
         Module::Index => index::called(name, row),
         Module::Orders => column_orders::called(name, row),
+        Module::Coset => coset::called(name, row),
+        Module::CanonicCoset => canonic_coset::called(name, row),
+        Module::CircleDomain => circle_domain::called(name, row),
     }
 }
 
@@ -121,4 +130,7 @@ fn main() {
     replay(Module::SecurePoint, b"secure_point.txt");
     replay(Module::Index, b"index.txt");
     replay(Module::Orders, b"orders.txt");
+    replay(Module::Coset, b"coset.txt");
+    replay(Module::CanonicCoset, b"canonic_coset.txt");
+    replay(Module::CircleDomain, b"circle_domain.txt");
 }

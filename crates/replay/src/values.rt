@@ -2,6 +2,11 @@
 use crate::row::MOST;
 use crate::row::Reply;
 use crate::row::at;
+use taripomune::coset_reply::CircleDomainIndexIteratorReply;
+use taripomune::coset_reply::CircleDomainStepReply;
+use taripomune::coset_reply::CosetIteratorReply;
+use taripomune::coset_reply::CosetReply;
+use taripomune::coset_reply::CosetStepReply;
 use taripomune::reply::BoolReply;
 use taripomune::reply::CM31Reply;
 use taripomune::reply::IndexReply;
@@ -130,13 +135,61 @@ pub fn secure_point(r: SecurePointReply) -> Reply {
     with_word(y2, r.y3)
 }
 
-// The words of the destination follow.
-pub fn written(r: WriteReply, dst: &[u32]) -> Reply {
-    let mut reply = reply_of(r.number, r.position);
+pub fn coset(r: CosetReply) -> Reply {
+    let initial_index = with_number(reply_of(r.number, r.position), r.initial_index);
+    let initial_x = with_word(initial_index, r.initial_x);
+    let initial_y = with_word(initial_x, r.initial_y);
+    let step_index = with_number(initial_y, r.step_index);
+    let step_x = with_word(step_index, r.step_x);
+    let step_y = with_word(step_x, r.step_y);
+    with_word(step_y, r.log_size)
+}
+
+// The reply with the numbers of an iterator.
+fn with_iterator(reply: Reply, cur: u64, step: u64, remaining: u64) -> Reply {
+    let first = with_number(reply, cur);
+    let second = with_number(first, step);
+    with_number(second, remaining)
+}
+
+pub fn coset_iterator(r: CosetIteratorReply) -> Reply {
+    with_iterator(reply_of(r.number, r.position), r.cur, r.step, r.remaining)
+}
+
+pub fn coset_step(r: CosetStepReply) -> Reply {
+    let done = with_word(reply_of(r.number, r.position), r.done);
+    let index = with_number(done, r.index);
+    with_iterator(index, r.cur, r.step, r.remaining)
+}
+
+pub fn index_iterator(r: CircleDomainIndexIteratorReply) -> Reply {
+    let start = reply_of(r.number, r.position);
+    let first = with_iterator(start, r.first_cur, r.first_step, r.first_remaining);
+    with_iterator(first, r.second_cur, r.second_step, r.second_remaining)
+}
+
+pub fn circle_domain_step(r: CircleDomainStepReply) -> Reply {
+    let done = with_word(reply_of(r.number, r.position), r.done);
+    let index = with_number(done, r.index);
+    let first = with_iterator(index, r.first_cur, r.first_step, r.first_remaining);
+    with_iterator(first, r.second_cur, r.second_step, r.second_remaining)
+}
+
+// The reply with the words of a destination.
+fn with_words(reply: Reply, dst: &[u32]) -> Reply {
+    let mut all = reply;
     let mut i = 0;
     while i < dst.len() {
-        reply = with_word(reply, dst[i]);
+        all = with_word(all, dst[i]);
         i += 1;
     }
-    reply
+    all
+}
+
+pub fn written(r: WriteReply, dst: &[u32]) -> Reply {
+    with_words(reply_of(r.number, r.position), dst)
+}
+
+pub fn coset_written(r: CosetReply, dst: &[u32]) -> Reply {
+    with_words(coset(r), dst)
 }

@@ -36,7 +36,7 @@ pub struct U32Reply {
     pub value: u32,
 }
 
-// a position
+// a position or a size
 #[repr(C)]
 pub struct U64Reply {
     pub number: u32,

@@ -2,7 +2,7 @@
 
 use crate::element::{elements, Element};
 use std::slice::Iter;
-use stwo::core::circle::{CirclePoint, CirclePointIndex};
+use stwo::core::circle::{CirclePoint, CirclePointIndex, Coset, CosetIterator};
 use stwo::core::fields::cm31::CM31;
 use stwo::core::fields::m31::M31;
 use stwo::core::fields::qm31::QM31;
@@ -54,6 +54,21 @@ impl Args<'_> {
 
     pub fn index(&mut self) -> CirclePointIndex {
         CirclePointIndex(self.take())
+    }
+
+    /// A record of seven numbers, which needn't agree with one another.
+    pub fn coset(&mut self) -> Coset {
+        Coset {
+            initial_index: self.index(),
+            initial: self.point(),
+            step_size: self.index(),
+            step: self.point(),
+            log_size: self.take(),
+        }
+    }
+
+    pub fn coset_iterator(&mut self) -> CosetIterator<CirclePointIndex> {
+        CosetIterator { cur: self.index(), step: self.index(), remaining: self.take() }
     }
 
     /// A slice: its length, then its words.

@@ -3,7 +3,7 @@
 use crate::kinds::Kind;
 use common::args::Args;
 use common::element::{point_words, Element};
-use stwo::core::circle::CirclePoint;
+use stwo::core::circle::{CirclePoint, CirclePointIndex};
 
 /// A function to compare: how its arguments are drawn and refused, and what the Rust answers where they aren't.
 pub struct Entry {
@@ -25,4 +25,9 @@ pub fn words<T: Element>(element: T) -> Vec<u64> {
 /// The values of an answer that is a point.
 pub fn coordinates<T: Element>(point: CirclePoint<T>) -> Vec<u64> {
     point_words(&point).into_iter().map(u64::from).collect()
+}
+
+/// The value of an answer that is a point index.
+pub fn number(index: CirclePointIndex) -> Vec<u64> {
+    vec![index.0 as u64]
 }

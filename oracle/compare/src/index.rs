@@ -1,7 +1,7 @@
 //! Point indices: `circle.rs`.
 
 use crate::circle_kinds::{COUNT, EVEN_INDEX, INDEX, LOG_SIZE};
-use crate::entry::{coordinates, entry, Entry};
+use crate::entry::{coordinates, entry, number, Entry};
 use stwo::core::circle::CirclePointIndex;
 
 pub const ENTRIES: &[Entry] = &[
@@ -16,7 +16,3 @@ pub const ENTRIES: &[Entry] = &[
     entry("index_neg", &[INDEX], |a| number(-a.index())),
     entry("index_mul", &[INDEX, COUNT], |a| number(a.index() * a.take::<usize>())),
 ];
-
-fn number(index: CirclePointIndex) -> Vec<u64> {
-    vec![index.0 as u64]
-}

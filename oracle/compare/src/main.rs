@@ -1,10 +1,15 @@
 //! Compares every function of the library's C interface with the Rust of stwo.
 
 mod batch;
+mod canonic_coset;
 mod check;
+mod circle_domain;
 mod circle_kinds;
 mod cm31;
 mod columns;
+mod coset;
+mod coset_kinds;
+mod coset_records;
 mod entry;
 mod index;
 mod inputs;
@@ -16,6 +21,7 @@ mod point;
 mod qm31;
 mod record;
 mod secure_point;
+mod walk;
 
 use check::{check, Tally};
 use common::library::{Function, FUNCTIONS};
@@ -23,6 +29,7 @@ use entry::Entry;
 use std::fs;
 use std::path::{Path, PathBuf};
 use std::process::ExitCode;
+use walk::{check_walk, WALKS};
 
 /// The entries, by the file that each module's answers are recorded in, and about how many bytes of each function's
 /// answers are recorded at most.
@@ -35,6 +42,9 @@ const MODULES: &[(&str, &[Entry], usize)] = &[
     ("secure_point", secure_point::ENTRIES, 6_000),
     ("index", index::ENTRIES, 4_200),
     ("orders", orders::ENTRIES, 8_000),
+    ("coset", coset::ENTRIES, 4_200),
+    ("canonic_coset", canonic_coset::ENTRIES, 5_000),
+    ("circle_domain", circle_domain::ENTRIES, 6_000),
 ];
 
 /// `replay` reads shorter files only.
@@ -79,17 +89,23 @@ fn run(options: Options) -> Result<(), String> {
     let mut total = Tally::default();
     println!("{:<44}{:>10}{:>10}{:>10}", "function", "compared", "refused", "different");
     for entry in MODULES.iter().flat_map(|(_, entries, _)| *entries) {
-        let tally = check(entry, function(entry)?, options.seed, options.count);
-        print(entry.name, &tally);
-        total.compared += tally.compared;
-        total.refused += tally.refused;
-        total.different += tally.different;
+        add(&mut total, entry.name, check(entry, function(entry)?, options.seed, options.count));
+    }
+    for walk in &WALKS {
+        add(&mut total, walk.name, check_walk(walk, options.seed));
     }
     print("total", &total);
     if total.different != 0 {
         return Err(format!("{} answers differ", total.different));
     }
     options.record.map_or(Ok(()), |folder| record_all(&folder, options.seed))
+}
+
+fn add(total: &mut Tally, name: &str, tally: Tally) {
+    print(name, &tally);
+    total.compared += tally.compared;
+    total.refused += tally.refused;
+    total.different += tally.different;
 }
 
 fn print(name: &str, tally: &Tally) {

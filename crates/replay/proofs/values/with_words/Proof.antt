@@ -1,17 +1,14 @@
 use Prim.Native.Nat.{_≤_, _-_}
 use lib.ListN.{length}
 use borrow.Author.Needs.{needs}
-use Rattle.replay.proofs.values.written.Statement.{statement}
-use Rattle.replay.proofs.values.written.Tie as tie
+use Rattle.replay.proofs.values.with_words.Statement.{statement}
+use Rattle.replay.proofs.values.with_words.Tie as tie
 
 abbrev Inv-loop : tie.InvT-loop
-Inv-loop dst reply₀ i₀ reply i = i ≤ length dst
+Inv-loop dst all₀ i₀ all i = i ≤ length dst
 
 abbrev μ-loop : tie.MeasureT-loop
-μ-loop dst reply₀ i₀ reply i = length dst - i
-
-reply-of-requires : tie.Need-reply-of-requires Inv-loop μ-loop
-reply-of-requires c κs = search needs
+μ-loop dst all₀ i₀ all i = length dst - i
 
 loop-holds : tie.Need-loop-holds Inv-loop μ-loop
 loop-holds c = search needs
@@ -37,13 +34,12 @@ loop-again c = search needs
 returns : tie.Need-returns Inv-loop μ-loop
 returns c = search needs
 
-pub written-spec : {M : Type 1} → statement M
-written-spec =
+pub with-words-spec : {M : Type 1} → statement M
+with-words-spec =
     tie.close
     (tie.spec
     Inv-loop
     μ-loop
-    reply-of-requires
     loop-holds
     mul-with-word
     shared-slice-read-with-word

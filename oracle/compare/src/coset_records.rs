@@ -1,0 +1,162 @@
+//! Records of seven numbers to call with: as the Rust makes them, with numbers that disagree, and with refused ones.
+
+use crate::coset::record;
+use crate::kinds::P;
+use common::random::Random;
+use std::sync::LazyLock;
+use stwo::core::circle::{CirclePointIndex, Coset};
+
+pub const LARGEST_INDEX: i128 = 1 << 31;
+pub const LARGEST_U32: i128 = (1 << 32) - 1;
+pub const LARGEST_U64: i128 = (1 << 64) - 1;
+
+/// The places of a record's numbers.
+pub const INDICES: [usize; 2] = [0, 3];
+pub const WORDS: [usize; 4] = [1, 2, 4, 5];
+pub const LOG_SIZE: usize = 6;
+pub const RECORD: usize = 7;
+
+pub fn numbers(coset: &Coset) -> Vec<i128> {
+    record(coset).into_iter().map(i128::from).collect()
+}
+
+/// Records as the Rust makes them.
+pub fn made() -> Vec<Coset> {
+    let index = CirclePointIndex;
+    let largest = 1 << 31;
+    let new =
+        [(0, 0), (1, 3), (2, 5), (5, 31), (1 << 30, 8), (largest - 1, 30), (largest, 0), (largest, 4), (largest, 31)];
+    let doubled = [Coset::odds(8).double(), Coset::odds(30).repeated_double(29), Coset::subgroup(1).double()];
+    let conjugates = [Coset::half_odds(3).conjugate(), Coset::subgroup(0).conjugate()];
+    let shifted = [Coset::odds(4).shift(index(largest)), Coset::half_odds(5).shift(index(12345))];
+    [
+        &[0, 1, 2, 3, 16, 30, 31].map(Coset::subgroup)[..],
+        &[0, 1, 2, 8, 29, 30].map(Coset::odds),
+        &[0, 1, 2, 7, 28, 29].map(Coset::half_odds),
+        &new.map(|(k, n)| Coset::new(index(k), n)),
+        &doubled,
+        &conjugates,
+        &shifted,
+    ]
+    .concat()
+}
+
+/// The record with other numbers at some places.
+pub fn altered(coset: &Coset, others: &[(usize, i128)]) -> Vec<i128> {
+    let mut numbers = numbers(coset);
+    for (place, number) in others {
+        numbers[*place] = *number;
+    }
+    numbers
+}
+
+/// Records whose numbers disagree with one another.
+fn disagreeing() -> Vec<Vec<i128>> {
+    let altered_half_odds = |others: &[(usize, i128)]| altered(&Coset::half_odds(4), others);
+    vec![
+        vec![0; RECORD],
+        altered(&Coset::odds(3), &[(1, 0), (2, 0)]),
+        altered(&Coset::odds(3), &[(4, 1), (5, 5)]),
+        altered(&Coset::odds(1), &[(1, P - 1), (2, P - 1), (4, P - 1), (5, P - 1)]),
+        altered_half_odds(&[(0, LARGEST_INDEX)]),
+        altered_half_odds(&[(3, LARGEST_INDEX)]),
+        altered_half_odds(&[(3, 0)]),
+        altered_half_odds(&[(0, LARGEST_INDEX - 1), (3, LARGEST_INDEX - 1)]),
+        altered_half_odds(&[(LOG_SIZE, 0)]),
+        altered_half_odds(&[(LOG_SIZE, 30)]),
+        altered_half_odds(&[(LOG_SIZE, 31)]),
+    ]
+}
+
+/// Records with one number that is refused, and with several.
+fn damaged() -> Vec<Vec<i128>> {
+    let one = [
+        (LOG_SIZE, 32),
+        (LOG_SIZE, 33),
+        (LOG_SIZE, 64),
+        (LOG_SIZE, LARGEST_U32),
+        (0, LARGEST_INDEX + 1),
+        (0, LARGEST_U64),
+        (3, LARGEST_INDEX + 1),
+        (3, 1 << 32),
+        (1, P),
+        (2, P + 1),
+        (4, P),
+        (5, LARGEST_U32),
+    ];
+    let several: [&[(usize, i128)]; 6] = [
+        &[(0, LARGEST_INDEX + 1), (LOG_SIZE, 32)],
+        &[(1, P), (LOG_SIZE, 32)],
+        &[(1, P), (3, LARGEST_INDEX + 1)],
+        &[(2, P), (0, LARGEST_INDEX + 1)],
+        &[(0, LARGEST_U64), (1, P), (LOG_SIZE, 40)],
+        &[(0, 1 << 63), (1, P), (2, P), (3, 1 << 63), (4, P), (5, P), (LOG_SIZE, LARGEST_U32)],
+    ];
+    let with = |others: &[(usize, i128)]| altered(&Coset::odds(6), others);
+    one.iter().map(|other| with(&[*other])).chain(several.map(with)).collect()
+}
+
+pub static RECORDS: LazyLock<Vec<Vec<i128>>> =
+    LazyLock::new(|| [made().iter().map(numbers).collect(), disagreeing(), damaged()].concat());
+
+/// A number for a place of a record, in its range or above it.
+pub fn draw_number(place: usize, good: bool, random: &mut Random) -> i128 {
+    let (most, bits) = match place {
+        0 | 3 => (LARGEST_INDEX, 64),
+        LOG_SIZE => (31, 32),
+        _ => (P - 1, 32),
+    };
+    match (good, random.one_in(8)) {
+        (true, true) => most,
+        (true, false) => random.below(most as u64).into(),
+        (false, true) => most + 1,
+        (false, false) => (most + 1 + i128::from(random.up_to_bits(bits - 1))).min((1 << bits) - 1),
+    }
+}
+
+/// A coset as the Rust makes it.
+pub fn draw_made(random: &mut Random) -> Coset {
+    let mut index = || CirclePointIndex(draw_number(0, true, random) as usize);
+    let (initial_index, shift_size) = (index(), index());
+    let coset = match random.below(4) {
+        0 => Coset::subgroup(random.below(32) as u32),
+        1 => Coset::odds(random.below(31) as u32),
+        2 => Coset::half_odds(random.below(30) as u32),
+        _ => Coset::new(initial_index, random.below(32) as u32),
+    };
+    match random.below(6) {
+        0 => coset.repeated_double(random.below(u64::from(coset.log_size) + 1) as u32),
+        1 => coset.conjugate(),
+        2 => coset.shift(shift_size),
+        _ => coset,
+    }
+}
+
+/// A coset as the Rust makes it, now and then with other numbers at some places.
+pub fn draw_good(random: &mut Random) -> Vec<i128> {
+    let mut record = numbers(&draw_made(random));
+    if random.one_in(4) {
+        for _ in 0..1 + random.below(3) {
+            let place = random.below(RECORD as u64) as usize;
+            record[place] = draw_number(place, true, random);
+        }
+    }
+    record
+}
+
+/// A good record, or one with refused numbers.
+pub fn draw_record(random: &mut Random) -> Vec<i128> {
+    let mut record = draw_good(random);
+    if random.one_in(3) {
+        damage(&mut record, random);
+    }
+    record
+}
+
+/// Puts refused numbers at up to three places.
+pub fn damage(record: &mut [i128], random: &mut Random) {
+    for _ in 0..random.below(4) {
+        let place = random.below(RECORD as u64) as usize;
+        record[place] = draw_number(place, false, random);
+    }
+}
