@@ -3,7 +3,6 @@ use Prim.Native.Nat.{ℕ}
 use Rattle.fields.specs.Refusal.{numberOf, positionOf}
 use Rattle.circle.specs.Point.{ofPoint}
 use Rattle.circle.specs.Index.{ofIndex}
-use Rattle.circle.specs.declared.index.CirclePointIndex.{CirclePointIndex}
 use Rattle.domains.specs.declared.coset.Coset.{Coset}
 use Rattle.domains.specs.declared.coset.CosetAnswer.{CosetAnswer}
 use Rattle.domains.specs.declared.coset.CosetAnswer.the-variants.{Value, Refused}
