@@ -19,6 +19,14 @@ ofIndex k = record { 0 = k }
 abbrev pub indexPoint : ℕ → ℕ × ℕ
 indexPoint k = multiple words31 k generator
 
+-- a generator of the subgroup of 2^n points; 2^31, unreduced, for n = 0
+abbrev pub subgroupGen : ℕ → ℕ
+subgroupGen n = 2 ^ (31 - n)
+
+-- the negative of an index
+abbrev pub negIndex : ℕ → ℕ
+negIndex k = (2 ^ 31 - k) % 2 ^ 31
+
 -- the answer where the index is at most 2^31, else number 4
 abbrev pub checked : CirclePointIndex → CirclePointIndexAnswer → CirclePointIndexAnswer
 checked k answer = cond (ltb (2 ^ 31) (k .0)) (Refused Index) answer
@@ -26,9 +34,9 @@ checked k answer = cond (ltb (2 ^ 31) (k .0)) (Refused Index) answer
 unfoldable pub reduceAnswer : CirclePointIndex → CirclePointIndexAnswer
 reduceAnswer k = checked k (Value (ofIndex (k .0 % 2 ^ 31)))
 
--- number 6 above 31; 2^31 for log size 0
+-- number 6 above 31
 unfoldable pub subgroupGenAnswer : ℕ → CirclePointIndexAnswer
-subgroupGenAnswer n = cond (ltb 31 n) (Refused LogSize) (Value (ofIndex (2 ^ (31 - n))))
+subgroupGenAnswer n = cond (ltb 31 n) (Refused LogSize) (Value (ofIndex (subgroupGen n)))
 
 unfoldable pub toPointAnswer : CirclePointIndex → CirclePointAnswer
 toPointAnswer k = cond (ltb (2 ^ 31) (k .0)) (P.Refused Index) (P.Value (ofPoint (indexPoint (k .0))))
@@ -44,7 +52,7 @@ unfoldable pub subAnswer : CirclePointIndex → CirclePointIndex → CirclePoint
 subAnswer j k = checked j (checked k (Value (ofIndex ((j .0 + 2 ^ 31 - k .0) % 2 ^ 31))))
 
 unfoldable pub negAnswer : CirclePointIndex → CirclePointIndexAnswer
-negAnswer k = checked k (Value (ofIndex ((2 ^ 31 - k .0) % 2 ^ 31)))
+negAnswer k = checked k (Value (ofIndex (negIndex (k .0))))
 
 -- modulo 2^64, then reduced
 unfoldable pub mulAnswer : CirclePointIndex → ℕ → CirclePointIndexAnswer

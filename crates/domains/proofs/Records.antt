@@ -7,7 +7,7 @@ use lib.Dec.{leb, ltb}
 use borrow.Author.Tests.{leb-true, not-false}
 use Rattle.fields.specs.declared.refusal.Refusal.{Refusal}
 use Rattle.circle.specs.Point.{Reduced, reduced, pointOf, ofPoint}
-use Rattle.circle.specs.Index.{ofIndex}
+use Rattle.circle.specs.Index.{ofIndex, negIndex, subgroupGen}
 use Rattle.circle.specs.declared.point.CirclePoint.{CirclePoint}
 use Rattle.circle.specs.declared.index.CirclePointIndex.{CirclePointIndex}
 use Rattle.circle.proofs.Answers.{x-below, y-below}
@@ -18,8 +18,7 @@ use Rattle.domains.specs.declared.canonic.CanonicCoset.{CanonicCoset}
 use Rattle.domains.specs.declared.canonic.CanonicCosetAnswer.the-variants as CA
 use Rattle.domains.specs.declared.domain.CircleDomainAnswer.the-variants as DA
 use Rattle.domains.specs.Record.{rows, passed}
-use Rattle.domains.specs.Coset.{hasLogSize, hasIndices, hasWords, check, checkTwo, checkWithIndex, Fits, indexAt, subgroupGen}
-use Rattle.domains.specs.Listing.{negIndex}
+use Rattle.domains.specs.Coset.{hasLogSize, hasIndices, hasWords, check, checkTwo, checkWithIndex, Fits, indexAt}
 use Rattle.domains.specs.Domain.{ofHalf, domainIndexAt, index-first, index-second}
 use Rattle.domains.specs.Canonic.{isLogSize}
 use Rattle.domains.specs.CosetLaws.{subgroup-gen-most}

@@ -8,7 +8,7 @@ use Rattle.fields.specs.declared.answer.U64Answer.the-variants as L
 use Rattle.fields.specs.declared.answer.U32Answer.{U32Answer}
 use Rattle.fields.specs.declared.answer.U32Answer.the-variants as U
 use Rattle.circle.specs.Point.{ofPoint}
-use Rattle.circle.specs.Index.{ofIndex, indexPoint}
+use Rattle.circle.specs.Index.{ofIndex, indexPoint, subgroupGen}
 use Rattle.circle.specs.declared.point.CirclePointAnswer.{CirclePointAnswer}
 use Rattle.circle.specs.declared.point.CirclePointAnswer.the-variants as P
 use Rattle.circle.specs.declared.index.CirclePointIndexAnswer.{CirclePointIndexAnswer}
@@ -23,7 +23,7 @@ use Rattle.domains.specs.declared.canonic.CanonicCosetAnswer.the-variant
 use Rattle.domains.specs.declared.domain.CircleDomainAnswer.{CircleDomainAnswer}
 use Rattle.domains.specs.declared.domain.CircleDomainAnswer.the-variants as D
 use Rattle.domains.specs.Record.{rows, passed}
-use Rattle.domains.specs.Coset.{hasIndices, hasWords, subgroupGen, cosetOf, indexAt}
+use Rattle.domains.specs.Coset.{hasIndices, hasWords, cosetOf, indexAt}
 use Rattle.domains.specs.Domain.{ofHalf}
 
 -- from 1 to 30

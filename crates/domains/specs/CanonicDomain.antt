@@ -10,7 +10,7 @@ use lib.Pow as W
 use borrow.Author.Tests.{le-leb}
 use Rattle.fields.specs.declared.answer.U64Answer.the-variants as L
 use Rattle.circle.specs.Point.{ofPoint}
-use Rattle.circle.specs.Index.{ofIndex, indexPoint}
+use Rattle.circle.specs.Index.{ofIndex, indexPoint, negIndex, subgroupGen}
 use Rattle.circle.specs.declared.point.CirclePointAnswer.the-variants as P
 use Rattle.circle.specs.declared.index.CirclePointIndexAnswer.the-variants as I
 use Rattle.domains.specs.declared.record.Check.the-variants.{Passed}
@@ -19,8 +19,8 @@ use Rattle.domains.specs.declared.domain.CircleDomainAnswer.the-variants
 use Rattle.domains.specs.declared.iterator.CircleDomainIndexIteratorAnswer.the-variants as T
 use Rattle.domains.specs.declared.iterator.CircleDomainStep.the-variants.{Next, Done}
 use Rattle.domains.specs.Record.{passed}
-use Rattle.domains.specs.Listing.{unit, cosetIndex, negIndex, domainIndex}
-use Rattle.domains.specs.Coset.{hasIndices, hasWords, check, Fits, subgroupGen, cosetOf, indexAt, conjugated}
+use Rattle.domains.specs.Listing.{unit, cosetIndex, domainIndex}
+use Rattle.domains.specs.Coset.{hasIndices, hasWords, check, Fits, cosetOf, indexAt, conjugated}
 use Rattle.domains.specs.Iterator.{domainNextAnswer}
 use Rattle.domains.specs.Domain.{ofHalf, sizeAnswer, indexAtAnswer, atAnswer, domainIndexAt, iterIndicesAnswer, domainIteratorOf}
 use Rattle.domains.specs.Canonic.{isLogSize, canonicOf, halfOf, tryNewAnswer, circleDomainAnswer}

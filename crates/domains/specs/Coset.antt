@@ -12,7 +12,7 @@ use Rattle.fields.specs.declared.answer.U32Answer.the-variants as U
 use Rattle.fields.specs.declared.answer.BoolAnswer.{BoolAnswer}
 use Rattle.fields.specs.declared.answer.BoolAnswer.the-variants as B
 use Rattle.circle.specs.Point.{Reduced, reduced, ofPoint, pointOf}
-use Rattle.circle.specs.Index.{ofIndex, indexPoint}
+use Rattle.circle.specs.Index.{ofIndex, indexPoint, subgroupGen, negIndex}
 use Rattle.circle.specs.declared.point.CirclePoint.{CirclePoint}
 use Rattle.circle.specs.declared.point.CirclePointAnswer.{CirclePointAnswer}
 use Rattle.circle.specs.declared.point.CirclePointAnswer.the-variants as P
@@ -27,7 +27,6 @@ use Rattle.domains.specs.declared.iterator.CosetIterator.{CosetIterator}
 use Rattle.domains.specs.declared.iterator.CosetIteratorAnswer.{CosetIteratorAnswer}
 use Rattle.domains.specs.declared.iterator.CosetIteratorAnswer.the-variants as T
 use Rattle.domains.specs.Record.{rows, passed}
-use Rattle.domains.specs.Listing.{negIndex}
 
 -- ---- the checks of a record
 
@@ -60,10 +59,6 @@ pub record Fits (c : Coset) : Type 0 where
   pub stepReduced : Reduced (c .step)
 
 -- ---- cosets
-
--- 2^31 for k = 0
-abbrev pub subgroupGen : ℕ → ℕ
-subgroupGen k = 2 ^ (31 - k)
 
 -- 2^n points from index k on
 unfoldable pub cosetOf : ℕ → ℕ → Coset

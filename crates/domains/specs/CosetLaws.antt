@@ -10,11 +10,11 @@ use Rattle.algebra.specs.M31.{P}
 use Rattle.circle.specs.Point.{Reduced, reduced}
 use Rattle.circle.specs.IndexPoints.{index-below}
 use Rattle.circle.specs.declared.point.CirclePoint.{CirclePoint}
+use Rattle.circle.specs.Index.{negIndex, subgroupGen}
 use Rattle.domains.specs.declared.record.Check.the-variants.{Passed}
 use Rattle.domains.specs.declared.coset.Coset.{Coset}
 use Rattle.domains.specs.Record.{rows}
-use Rattle.domains.specs.Listing.{negIndex}
-use Rattle.domains.specs.Coset.{hasLogSize, hasIndices, hasWords, check, checkTwo, Fits, subgroupGen, cosetOf, indexAt, conjugated}
+use Rattle.domains.specs.Coset.{hasLogSize, hasIndices, hasWords, check, checkTwo, Fits, cosetOf, indexAt, conjugated}
 
 -- ---- the checks
 

@@ -14,7 +14,7 @@ use Rattle.fields.specs.declared.answer.U32Answer.the-variants as U
 use Rattle.fields.specs.declared.answer.BoolAnswer.{BoolAnswer}
 use Rattle.fields.specs.declared.answer.BoolAnswer.the-variants as B
 use Rattle.circle.specs.Point.{ofPoint}
-use Rattle.circle.specs.Index.{ofIndex, indexPoint}
+use Rattle.circle.specs.Index.{ofIndex, indexPoint, negIndex}
 use Rattle.circle.specs.declared.point.CirclePointAnswer.{CirclePointAnswer}
 use Rattle.circle.specs.declared.point.CirclePointAnswer.the-variants as P
 use Rattle.circle.specs.declared.index.CirclePointIndex.{CirclePointIndex}
@@ -28,7 +28,7 @@ use Rattle.domains.specs.declared.iterator.CircleDomainIndexIterator.{Ci
 use Rattle.domains.specs.declared.iterator.CircleDomainIndexIteratorAnswer.{CircleDomainIndexIteratorAnswer}
 use Rattle.domains.specs.declared.iterator.CircleDomainIndexIteratorAnswer.the-variants as T
 use Rattle.domains.specs.Record.{passed}
-use Rattle.domains.specs.Listing.{listing, negIndex}
+use Rattle.domains.specs.Listing.{listing}
 use Rattle.domains.specs.Coset.{check, checkWithIndex, cosetOf, indexAt, shifted, conjugated, iteratorOf}
 
 abbrev pub ofHalf : Coset → CircleDomain

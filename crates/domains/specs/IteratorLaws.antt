@@ -20,7 +20,7 @@ use Rattle.domains.specs.CosetLaws.{conjugate-fits}
 use Rattle.domains.specs.Iterator.{hasIndices, advanced, nextAnswer, domainNextAnswer}
 use Rattle.domains.specs.Domain.{domainIteratorOf}
 
--- the iterator that a step hands back
+-- the iterator that a step hands back; itself where the step is refused
 unfoldable pub after : CosetIterator → CosetStep → CosetIterator
 after it (Next k rest) = rest
 after it (Done rest) = rest

@@ -2,6 +2,7 @@
 use Prim.Native.Nat.{ℕ, zero, suc, _+_, _-_, _*_, _%_, _^_}
 use mathlib.Core.List.{List, [], _∷_, _++_, map}
 use lib.ListN.{getD}
+use Rattle.circle.specs.Index.{negIndex}
 
 -- f 0, f 1, .., so many of them
 unfoldable pub listing : ℕ → (ℕ → ℕ) → List ℕ
@@ -15,10 +16,6 @@ unit n = 2 ^ (30 - n)
 -- the canonic coset's k-th index: h (2k + 1) modulo 2^31
 abbrev pub cosetIndex : ℕ → ℕ → ℕ
 cosetIndex n k = unit n * (2 * k + 1) % 2 ^ 31
-
--- the negative of an index
-abbrev pub negIndex : ℕ → ℕ
-negIndex k = (2 ^ 31 - k) % 2 ^ 31
 
 -- h + 4hi for i below 2^(n - 1)
 abbrev pub halfIndices : ℕ → List ℕ

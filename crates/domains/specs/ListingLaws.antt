@@ -7,9 +7,10 @@ use native.Mathlib.Omega.{arith}
 use lib.ListN.{length, getD, length-append, length-map, List·getD-append, List·getD-map}
 use lib.Seq.{getD-append-add}
 use lib.Pow as W
+use Rattle.circle.specs.Index.{negIndex}
 use Rattle.orders.specs.Orders.{toDomain, toCoset}
 use Rattle.orders.specs.OrderLaws.{by-parity, even-to-domain, odd-to-domain, to-coset-below, to-domain-to-coset}
-use Rattle.domains.specs.Listing.{listing, unit, cosetIndex, negIndex, halfIndices, domainIndices, domainIndex}
+use Rattle.domains.specs.Listing.{listing, unit, cosetIndex, halfIndices, domainIndices, domainIndex}
 
 pub listing-length : (count : ℕ) (f : ℕ → ℕ) → length (listing count f) ≡ count
 unfolding listing

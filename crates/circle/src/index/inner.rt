@@ -1,8 +1,8 @@
 // Point indices as numbers: what the layers above compute with. These are no public calls.
 ghost use mathlib.Core.Path.{_≡_};
-ghost use Prim.Native.Nat.{_*_, _-_, _%_, _^_, _≤_};
+ghost use Prim.Native.Nat.{_*_, _%_, _^_, _≤_};
 ghost use Rattle.circle.specs.Point.{pointOf, Reduced};
-ghost use Rattle.circle.specs.Index.{indexPoint};
+ghost use Rattle.circle.specs.Index.{indexPoint, subgroupGen};
 use crate::point::CirclePoint;
 use crate::point::M31_CIRCLE_LOG_ORDER;
 
@@ -21,7 +21,7 @@ pub fn reduce(k: u64) -> u64
 
 pub fn subgroup_gen(log_size: u32) -> u64
     requires { ⌜ «log_size» ≤ 31 ⌝ }
-    ensures { λ r. ⌜ r ≡ 2 ^ (31 - «log_size») ⌝ }
+    ensures { λ r. ⌜ r ≡ subgroupGen «log_size» ⌝ }
 {
     1 << (M31_CIRCLE_LOG_ORDER - log_size)
 }

@@ -1,9 +1,9 @@
 // Cosets whose numbers are known to be in range: what the layers above compute with. These are no public calls.
 ghost use mathlib.Core.Path.{_≡_};
-ghost use Prim.Native.Nat.{_+_, _-_, _*_, _^_, _%_, _≤_};
+ghost use Prim.Native.Nat.{_+_, _*_, _^_, _%_, _≤_};
 ghost use Rattle.algebra.specs.Doubling.{iterate};
-ghost use Rattle.domains.specs.Listing.{negIndex};
-ghost use Rattle.domains.specs.Coset.{hasIndices, hasWords, Fits, check, checkTwo, checkWithIndex, subgroupGen, cosetOf, indexAt, doubled, samePoint, sameCoset, isDoublingOf, shifted, conjugated, iteratorOf};
+ghost use Rattle.circle.specs.Index.{negIndex, subgroupGen};
+ghost use Rattle.domains.specs.Coset.{hasIndices, hasWords, Fits, check, checkTwo, checkWithIndex, cosetOf, indexAt, doubled, samePoint, sameCoset, isDoublingOf, shifted, conjugated, iteratorOf};
 use crate::coset::Coset;
 use crate::iterator::CosetIterator;
 use crate::record::Check;
