@@ -1,5 +1,5 @@
 -- Repeated doubling, of points and of an x alone: a point of the circle over M31 reaches zero in at most 31 doublings.
-use Prim.Native.Nat.{ℕ, zero, suc, _^_}
+use Prim.Native.Nat.{ℕ, zero, suc, _+_, _^_}
 use mathlib.Core.Path.{_≡_, refl, sym, _∙_, ap}
 use mathlib.Core.List.{[], _∷_}
 use native.Mathlib.Nat as N
@@ -26,6 +26,11 @@ pub iterate-suc : {A : Type 0} (n : ℕ) (f : A → A) (a : A) → iterate (suc 
 unfolding iterate
 iterate-suc zero f a = refl
 iterate-suc (suc n) f a = iterate-suc n f (f a)
+
+pub iterate-add : {A : Type 0} (m n : ℕ) (f : A → A) (a : A) → iterate (m + n) f a ≡ iterate n f (iterate m f a)
+unfolding iterate
+iterate-add zero n f a = ap (λ (t : ℕ). iterate t f a) (N.zero-add n)
+iterate-add (suc m) n f a = ap (λ (t : ℕ). iterate t f a) (N.suc-add m n) ∙ iterate-add m n f (f a)
 
 module _ (O : Ops) (L : Laws O) where
   -- n doublings add p 2^n times

@@ -44,16 +44,13 @@ all-rows true true false e = (refl, refl, cc)
 all-rows true false c e = (refl, cc, cc)
 all-rows false b c e = (cc, cc, cc)
 
-both-true : (a b : Bool) → a && b ≡ true → (a ≡ true) × (b ≡ true)
-both-true a b e = and-eq-true-iff a b .0 e
-
 point-fits : (p : CirclePoint) → reduced p ≡ true → Reduced p
 point-fits p e = (x-below p true (sym e) refl, y-below p true (sym e) refl)
 
 fits-of : (c : Coset) → c .«log_size» ≤ 31 → hasIndices c ≡ true → hasWords c ≡ true → Fits c
 fits-of c h i w =
-    let indices = both-true (leb (c .«initial_index» .0) (2 ^ 31)) (leb (c .«step_size» .0) (2 ^ 31)) i in
-    let words = both-true (reduced (c .initial)) (reduced (c .step)) w in
+    let indices = and-eq-true-iff (leb (c .«initial_index» .0) (2 ^ 31)) (leb (c .«step_size» .0) (2 ^ 31)) .0 i in
+    let words = and-eq-true-iff (reduced (c .initial)) (reduced (c .step)) .0 w in
     record {
       logSizeFits = h;
       initialIndexFits = leb-true (c .«initial_index» .0) (2 ^ 31) (indices .0);
@@ -73,14 +70,14 @@ pub second-fits : (c d : Coset) (r : Check) → r ≡ checkTwo c d → r ≡ Pas
 unfolding checkTwo
 second-fits c d r e h =
     let t = all-rows (hasLogSize c && hasLogSize d) (hasIndices c && hasIndices d) (hasWords c && hasWords d) (sym e ∙ h) in
-    fits-of d (leb-true (d .«log_size») 31 (both-true (hasLogSize c) (hasLogSize d) (t .0) .1)) (both-true (hasIndices c) (hasIndices d) (t .1) .1)
-    (both-true (hasWords c) (hasWords d) (t .2) .1)
+    fits-of d (leb-true (d .«log_size») 31 (and-eq-true-iff (hasLogSize c) (hasLogSize d) .0 (t .0) .1)) (and-eq-true-iff (hasIndices c) (hasIndices d) .0 (t .1) .1)
+    (and-eq-true-iff (hasWords c) (hasWords d) .0 (t .2) .1)
 
 pub with-index-fits : (c : Coset) (k : ℕ) (r : Check) → r ≡ checkWithIndex c k → r ≡ Passed → (Fits c) × (k ≤ 2 ^ 31)
 unfolding checkWithIndex
 with-index-fits c k r e h =
     let t = all-rows (hasLogSize c) (hasIndices c && leb k (2 ^ 31)) (hasWords c) (sym e ∙ h) in
-    let indices = both-true (hasIndices c) (leb k (2 ^ 31)) (t .1) in
+    let indices = and-eq-true-iff (hasIndices c) (leb k (2 ^ 31)) .0 (t .1) in
     (fits-of c (leb-true (c .«log_size») 31 (t .0)) (indices .0) (t .2), leb-true k (2 ^ 31) (indices .1))
 
 pub canonic-fits : (c : CanonicCoset) (r : Check) → r ≡ C.check c → r ≡ Passed → (Fits (c .coset)) × (1 ≤ c .coset .«log_size») × (c .coset .«log_size» ≤ 30)
@@ -88,7 +85,7 @@ unfolding C.check
 canonic-fits c r e h =
     let n = c .coset .«log_size» in
     let t = all-rows (isLogSize n) (hasIndices (c .coset)) (hasWords (c .coset)) (sym e ∙ h) in
-    let size = both-true (leb 1 n) (leb n 30) (t .0) in
+    let size = and-eq-true-iff (leb 1 n) (leb n 30) .0 (t .0) in
     let low : 1 ≤ n = leb-true 1 n (size .0) in
     let high : n ≤ 30 = leb-true n 30 (size .1) in
     (fits-of (c .coset) (omega arith) (t .1) (t .2), low, high)
@@ -96,7 +93,7 @@ canonic-fits c r e h =
 -- a log size that is one of a canonic coset
 pub canonic-log-size : (n : ℕ) (r : Bool) → r ≡ isLogSize n → not r ≡ false → (1 ≤ n) × (n ≤ 30)
 canonic-log-size n r e h =
-    let size = both-true (leb 1 n) (leb n 30) (sym e ∙ not-false r h) in
+    let size = and-eq-true-iff (leb 1 n) (leb n 30) .0 (sym e ∙ not-false r h) in
     (leb-true 1 n (size .0), leb-true n 30 (size .1))
 
 -- ---- indices are below 2^31
@@ -124,12 +121,12 @@ domain-index-fits c i r e = omega (arith, domain-index-below c i)
 
 pub iterator-fits : (it : CosetIterator) (r : Bool) → r ≡ T.hasIndices it → r ≡ true → (it .cur .0 ≤ 2 ^ 31) × (it .step .0 ≤ 2 ^ 31)
 iterator-fits it r e h =
-    let indices = both-true (leb (it .cur .0) (2 ^ 31)) (leb (it .step .0) (2 ^ 31)) (sym e ∙ h) in
+    let indices = and-eq-true-iff (leb (it .cur .0) (2 ^ 31)) (leb (it .step .0) (2 ^ 31)) .0 (sym e ∙ h) in
     (leb-true (it .cur .0) (2 ^ 31) (indices .0), leb-true (it .step .0) (2 ^ 31) (indices .1))
 
 -- two tests, of which both hold
 pub both-hold : (a b r : Bool) → r ≡ (a && b) → not r ≡ false → (a ≡ true) × (b ≡ true)
-both-hold a b r e h = both-true a b (sym e ∙ not-false r h)
+both-hold a b r e h = and-eq-true-iff a b .0 (sym e ∙ not-false r h)
 
 -- ---- tests that were answered
 

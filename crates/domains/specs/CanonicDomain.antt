@@ -1,7 +1,7 @@
 -- The canonic circle domain of log size n as the calls give it: the indices that it lists, in which order, and their points.
 use Prim.Native.Nat.{ℕ, suc, _+_, _-_, _*_, _%_, _^_, _≤_, _<_}
 use mathlib.Core.Path.{_≡_, sym, _∙_, ap, ap₂, subst}
-use mathlib.Core.Bool.{true}
+use mathlib.Core.Bool.{true, and-eq-true-iff}
 use native.Mathlib.Nat as N
 use native.Mathlib.Decide.{decLt}
 use native.Mathlib.Omega.{arith}
@@ -26,7 +26,7 @@ use Rattle.domains.specs.Domain.{ofHalf, sizeAnswer, indexAtAnswer, atAn
 use Rattle.domains.specs.Canonic.{isLogSize, canonicOf, halfOf, tryNewAnswer, circleDomainAnswer}
 use Rattle.domains.specs.Domain as D
 use Rattle.domains.specs.Canonic as C
-use Rattle.domains.specs.CosetLaws.{both-pass, rows-pass, indices-pass, words-pass, fits-passes, subgroup-gen-most, made-fits, conjugate-index}
+use Rattle.domains.specs.CosetLaws.{rows-pass, indices-pass, words-pass, fits-passes, subgroup-gen-most, made-fits, conjugate-index}
 use Rattle.domains.specs.IteratorLaws.{walkedIndex, walked-index, domainSteps, DomainWalk, domain-walk}
 use Rattle.domains.specs.ListingLaws.{two-halves, half-bound, domain-first, domain-second}
 use Rattle.domains.specs.PointSet.{PointSet, point-set}
@@ -54,7 +54,7 @@ pub record CanonicDomain (n : ℕ) : Type 0 where
 
 module _ (n : ℕ) (lo : 1 ≤ n) (hi : n ≤ 30) where
   log-size-passes : isLogSize n ≡ true
-  log-size-passes = both-pass (leb 1 n) (leb n 30) (le-leb 1 n lo) (le-leb n 30 hi)
+  log-size-passes = and-eq-true-iff (leb 1 n) (leb n 30) .1 (le-leb 1 n lo, le-leb n 30 hi)
 
   canonic-passes : C.check (canonicOf n) ≡ Passed
   unfolding C.check canonicOf cosetOf

@@ -1,7 +1,7 @@
 -- Laws of coset records: those that the library makes pass the checks, and the conjugate's indices are the negatives.
 use Prim.Native.Nat.{ℕ, _+_, _-_, _*_, _/_, _%_, _^_, _≤_}
 use mathlib.Core.Path.{_≡_, ap}
-use mathlib.Core.Bool.{Bool, true, _&&_}
+use mathlib.Core.Bool.{Bool, true, _&&_, and-eq-true-iff}
 use native.Mathlib.Nat as N
 use native.Mathlib.Omega.{arith}
 use lib.Dec.{leb, ltb, lit<}
@@ -18,15 +18,12 @@ use Rattle.domains.specs.Coset.{hasLogSize, hasIndices, hasWords, check,
 
 -- ---- the checks
 
-pub both-pass : (a b : Bool) → a ≡ true → b ≡ true → a && b ≡ true
-both-pass a b e f = rw (e, f)
-
 pub rows-pass : (a b c : Bool) → a ≡ true → b ≡ true → c ≡ true → rows a b c ≡ Passed
 unfolding rows
 rows-pass a b c e f g = rw (e, f, g)
 
 point-passes : (p : CirclePoint) → Reduced p → reduced p ≡ true
-point-passes p h = both-pass (ltb (p .x .0) P) (ltb (p .y .0) P) (lt-ltb (p .x .0) P (h .0)) (lt-ltb (p .y .0) P (h .1))
+point-passes p h = and-eq-true-iff (ltb (p .x .0) P) (ltb (p .y .0) P) .1 (lt-ltb (p .x .0) P (h .0), lt-ltb (p .y .0) P (h .1))
 
 module _ (c : Coset) (f : Fits c) where
   log-size-passes : hasLogSize c ≡ true
@@ -34,23 +31,24 @@ module _ (c : Coset) (f : Fits c) where
 
   pub indices-pass : hasIndices c ≡ true
   indices-pass =
-      both-pass (leb (c .«initial_index» .0) (2 ^ 31)) (leb (c .«step_size» .0) (2 ^ 31)) (le-leb (c .«initial_index» .0) (2 ^ 31) (f .initialIndexFits))
-      (le-leb (c .«step_size» .0) (2 ^ 31) (f .stepSizeFits))
+      and-eq-true-iff (leb (c .«initial_index» .0) (2 ^ 31)) (leb (c .«step_size» .0) (2 ^ 31)) .1
+      (le-leb (c .«initial_index» .0) (2 ^ 31) (f .initialIndexFits), le-leb (c .«step_size» .0) (2 ^ 31) (f .stepSizeFits))
 
   pub words-pass : hasWords c ≡ true
-  words-pass = both-pass (reduced (c .initial)) (reduced (c .step)) (point-passes (c .initial) (f .initialReduced)) (point-passes (c .step) (f .stepReduced))
+  words-pass = and-eq-true-iff (reduced (c .initial)) (reduced (c .step)) .1 (point-passes (c .initial) (f .initialReduced), point-passes (c .step) (f .stepReduced))
 
   pub fits-passes : check c ≡ Passed
   unfolding check
   fits-passes = rows-pass (hasLogSize c) (hasIndices c) (hasWords c) log-size-passes indices-pass words-pass
 
--- with a record that passes
+-- two records that fit
 pub two-pass : (c d : Coset) → Fits c → Fits d → checkTwo c d ≡ Passed
 unfolding checkTwo
 two-pass c d f g =
     rows-pass (hasLogSize c && hasLogSize d) (hasIndices c && hasIndices d) (hasWords c && hasWords d)
-    (both-pass (hasLogSize c) (hasLogSize d) (log-size-passes c f) (log-size-passes d g)) (both-pass (hasIndices c) (hasIndices d) (indices-pass c f) (indices-pass d g))
-    (both-pass (hasWords c) (hasWords d) (words-pass c f) (words-pass d g))
+    (and-eq-true-iff (hasLogSize c) (hasLogSize d) .1 (log-size-passes c f, log-size-passes d g))
+    (and-eq-true-iff (hasIndices c) (hasIndices d) .1 (indices-pass c f, indices-pass d g))
+    (and-eq-true-iff (hasWords c) (hasWords d) .1 (words-pass c f, words-pass d g))
 
 -- ---- cosets that the library makes
 

@@ -69,7 +69,8 @@ iterIndicesAnswer d = passed (check (d .«half_coset»)) T.Refused (T.Value (dom
 unfoldable pub shiftAnswer : CircleDomain → CirclePointIndex → CircleDomainAnswer
 shiftAnswer d k = passed (checkWithIndex (d .«half_coset») (k .0)) Refused (Value (ofHalf (shifted (d .«half_coset») (k .0))))
 
--- into 2^n parts, the shifts into so many words: number 7 for more parts than points, then number 8 for too few words
+-- into 2^n parts, the shifts into so many words: number 7 for more parts than the half coset has points, then number 8 for
+-- too few words
 unfoldable pub splitAnswer : CircleDomain → ℕ → ℕ → CircleDomainAnswer
 splitAnswer d n words =
     passed (check (d .«half_coset»)) Refused

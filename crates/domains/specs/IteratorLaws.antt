@@ -6,7 +6,7 @@ use native.Mathlib.Nat as N
 use native.Mathlib.Omega.{arith}
 use lib.Dec.{eqb}
 use borrow.Author.Tests.{le-leb, eq-eqb, ne-eqb}
-use Rattle.algebra.specs.Doubling.{iterate, iterate-suc}
+use Rattle.algebra.specs.Doubling.{iterate, iterate-suc, iterate-add}
 use Rattle.circle.specs.Index.{ofIndex}
 use Rattle.domains.specs.declared.coset.Coset.{Coset}
 use Rattle.domains.specs.declared.iterator.CosetIterator.{CosetIterator}
@@ -66,12 +66,12 @@ pub record DomainWalk (c : Coset) : Type 0 where
 -- ---- a walk through known states
 
 module _ {S : Type 0} (f : S → S) (at : ℕ → S) (size : ℕ) (next : (k : ℕ) → k < size → f (at k) ≡ at (suc k)) where
-  pub walked : (k : ℕ) → k ≤ size → iterate k f (at 0) ≡ at k
+  walked : (k : ℕ) → k ≤ size → iterate k f (at 0) ≡ at k
   unfolding iterate
   walked zero h = refl
   walked (suc k) h = iterate-suc k f (at 0) ∙ ap f (walked k (omega arith)) ∙ next k (omega arith)
 
-  pub ended : f (at size) ≡ at size → (k : ℕ) → iterate (size + k) f (at 0) ≡ at size
+  ended : f (at size) ≡ at size → (k : ℕ) → iterate (size + k) f (at 0) ≡ at size
   unfolding iterate
   ended e zero = ap (λ (t : ℕ). iterate t f (at 0)) (N.add-zero size) ∙ walked size (omega arith)
   ended e (suc k) = ap (λ (t : ℕ). iterate t f (at 0)) (N.add-suc size k) ∙ iterate-suc (size + k) f (at 0) ∙ ap f (ended e k) ∙ e
@@ -153,11 +153,6 @@ module _ (c : Coset) (f : Fits c) where
 
 abbrev pair : CosetIterator → CosetIterator → CircleDomainIndexIterator
 pair s t = record { first = s; second = t }
-
-iterate-add : {S : Type 0} (m n : ℕ) (f : S → S) (a : S) → iterate (m + n) f a ≡ iterate n f (iterate m f a)
-unfolding iterate
-iterate-add zero n f a = ap (λ (t : ℕ). iterate t f a) (N.zero-add n)
-iterate-add (suc m) n f a = ap (λ (t : ℕ). iterate t f a) (N.suc-add m n) ∙ iterate-add m n f (f a)
 
 module _ (c : Coset) (f : Fits c) where
   g : Fits (conjugated c)
