@@ -2,7 +2,7 @@
 use Prim.Native.Nat.{ℕ, zero, suc}
 use mathlib.Core.Path.{_≡_, refl, _∙_, ap, ap₂}
 use mathlib.Core.List.{List, [], _∷_, map}
-use Rattle.algebra.specs.Ring.{Ops}
+use Rattle.algebra.specs.Ring.{Ops, sub}
 use Rattle.algebra.specs.Polynomial.{Expr}
 use Rattle.algebra.specs.Solver.{nth, value}
 use Rattle.algebra.specs.Power.{pow}
@@ -21,6 +21,9 @@ onPair f p = (f (p .0), f (p .1))
 
 module _ (A B : Ops) (f : A .El → B .El) (H : Homomorphism A B f) where
   open Homomorphism H using (to-zero, to-one, to-add, to-mul, to-neg)
+
+  pub to-sub : (x y : A .El) → f (sub A x y) ≡ sub B (f x) (f y)
+  to-sub x y = to-add x (A .neg y) ∙ ap (B .add (f x)) (to-neg y)
 
   pub to-pow : (x : A .El) (n : ℕ) → f (pow A x n) ≡ pow B (f x) n
   unfolding pow

@@ -1,4 +1,5 @@
 pub mod Ring
+pub mod Listing
 pub mod Polynomial
 pub mod Solver
 pub mod Power

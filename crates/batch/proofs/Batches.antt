@@ -12,7 +12,7 @@ use lib.Seq.{getD-take, getD-drop, getD-append-add, length-take-le}
 use borrow.Author.Tests.{leb-true, leb-false, ltb-false, le-ltb, eqb-true, eqb-false}
 use borrow.Rule.Slice.PartMut.{midOf, putMid, mid-len}
 use Rattle.algebra.specs.M31.{P}
-use Rattle.batch.specs.Batch.{Layout, ColumnField, m31Column, cm31Column, qm31Column, columnOf, inverted, firstBad, firstZero, count, lengthsFit, wordsAnswer, batchAnswer}
+use Rattle.batch.specs.Batch.{Layout, ColumnField, m31Column, cm31Column, qm31Column, columnOf, inverted, firstZero, count, lengthsFit, wordsAnswer, batchAnswer}
 use Rattle.batch.specs.Layouts.{LayoutLaws}
 use Rattle.batch.specs.Passes.{Units, Column, Holds, at, inverses, unitsOf}
 use Rattle.batch.specs.declared.Field.{Field}
@@ -21,11 +21,9 @@ use Rattle.fields.specs.declared.answer.WriteAnswer.{WriteAnswer}
 use Rattle.fields.specs.declared.answer.WriteAnswer.the-variants.{Written, Refused}
 use Rattle.fields.specs.declared.refusal.Refusal.{Refusal}
 use Rattle.fields.specs.declared.refusal.Refusal.the-variants.{Length, Chunk, Word, Inverse}
-use Rattle.fields.proofs.Search.{None, first-none, none-found}
+use Rattle.fields.specs.Columns.{isBad, firstBad}
+use Rattle.fields.specs.SearchLaws.{None, first-none, none-found}
 use Rattle.batch.proofs.Montgomery.{within, inverted-holds, length-inverted}
-
-abbrev pub isBad : List ℕ → ℕ → Bool
-isBad column i = leb P (getD column i 0)
 
 abbrev pub zeroAt : ColumnField → List ℕ → ℕ → Bool
 zeroAt F column k = F .isZero (F .layout .read column (k * F .layout .width))

@@ -4,9 +4,9 @@ use mathlib.Core.Bool.{Bool, cond, _&&_}
 use mathlib.Core.List.{List}
 use lib.Dec.{leb, ltb, eqb}
 use lib.ListN.{length, getD, set}
-use Rattle.algebra.specs.M31.{P}
 use Rattle.fields.specs.Words.{invP, complexInverse, quarticInverse}
 use Rattle.fields.specs.Search.{first}
+use Rattle.fields.specs.Columns.{firstBad}
 use Rattle.batch.specs.declared.Field.{Field}
 use Rattle.batch.specs.declared.Field.the-variants as F
 use Rattle.fields.specs.declared.answer.WriteAnswer.{WriteAnswer}
@@ -64,10 +64,6 @@ columnOf F.QM31 = qm31Column
 unfoldable pub inverted : (L : Layout) → (L .El → L .El) → ℕ → List ℕ → List ℕ → List ℕ
 inverted L inverse zero column dst = dst
 inverted L inverse (suc n) column dst = L .write (inverted L inverse n column dst) (n * L .width) (inverse (L .read column (n * L .width)))
-
--- the position of the lowest word at or above P, the length where there is none
-abbrev pub firstBad : List ℕ → ℕ
-firstBad column = first (λ i. leb P (getD column i 0)) (length column)
 
 module _ (F : ColumnField) where
   -- how many elements a column has

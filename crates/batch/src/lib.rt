@@ -4,11 +4,11 @@ ghost use mathlib.Core.Bool.{true, cond, _&&_};
 ghost use Prim.Native.Nat.{_+_, _*_, _/_, _-_, _%_, _≤_, _<_};
 ghost use lib.Dec.{leb, eqb};
 ghost use lib.ListN.{length};
-ghost use Rattle.batch.specs.Batch.{columnOf, inverted, firstBad, firstZero, wordsAnswer, batchAnswer, batchExit, m31Column};
+ghost use Rattle.batch.specs.Batch.{columnOf, inverted, firstZero, wordsAnswer, batchAnswer, batchExit, m31Column};
 ghost use Rattle.batch.specs.Passes.{Column, unitsOf};
 ghost use Rattle.fields.specs.declared.answer.WriteAnswer.the-variants.{Written};
 use fields::answer::WriteAnswer;
-use fields::m31::P;
+use fields::columns::first_bad;
 use fields::refusal::Refusal;
 
 mod cm31;
@@ -45,20 +45,6 @@ fn lengths_fit(words: usize, column: usize, dst: usize) -> bool
         return false;
     }
     column <= dst
-}
-
-// The position of the lowest word at or above P, the length where there is none.
-fn first_bad(column: &[u32]) -> usize
-    ensures { λ r. ⌜ r ≡ firstBad (now (column .entry)) ⌝ }
-{
-    let mut i: usize = 0;
-    while i < column.len() {
-        if P <= column[i] {
-            return i;
-        }
-        i += 1;
-    }
-    i
 }
 
 // Whether the element at a word is zero.
@@ -98,7 +84,7 @@ fn all_invertible(column: &[u32]) -> bool
     let mut i: usize = 0;
     while i < column.len() {
         let word = column[i];
-        seen = seen | std::num::wrapping_sub_u32(word, 1) | std::num::wrapping_add_u32(word, 1);
+        seen = seen | (std::num::wrapping_sub_u32(word, 1) | std::num::wrapping_add_u32(word, 1));
         i += 1;
     }
     seen < 2147483648

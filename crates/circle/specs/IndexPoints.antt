@@ -1,11 +1,13 @@
 -- Indices and their points: adding indices adds points, and two indices have one point exactly where they agree modulo 2^31.
 use Prim.Native.Nat.{ℕ, _+_, _-_, _*_, _%_, _^_, _≤_, _<_}
 use mathlib.Core.Path.{_≡_, sym, _∙_, ap}
+use mathlib.Core.List.{[], _∷_}
 use mathlib.Core.Logic.{_↔_, _⊎_, inl, inr}
 use native.Mathlib.Nat as N
 use native.Mathlib.Decide.{decLt}
 use native.Mathlib.Omega.{arith}
 use lib.Dec.{lit<}
+use Rattle.algebra.specs.Polynomial.{Expr, :-_, exprs, v0, v1}
 use Rattle.algebra.specs.Extension.{conjugate}
 use Rattle.algebra.specs.M31.{P, P-pos, m31, m31-laws, element}
 use Rattle.algebra.specs.Tower.{cm31}
@@ -16,6 +18,7 @@ use Rattle.algebra.specs.Doubling.{double}
 use Rattle.algebra.specs.Generator.{G, G-on, G-equal, G-quarter, G-antipode, G-conjugate}
 use Rattle.fields.specs.Words.{negP, words31}
 use Rattle.fields.specs.Elements.{element-homomorphism}
+use Rattle.fields.specs.Representation.{solveWords}
 use Rattle.fields.specs.Inverse.{m31-representation, minus-one}
 use Rattle.circle.specs.Formulas.{antipode}
 use Rattle.circle.specs.Point.{generator}
@@ -70,6 +73,17 @@ index-mul k n =
 -- 2^29 G = (0, -1)
 pub index-quarter : indexPoint (2 ^ 29) ≡ (0, P - 1)
 index-quarter = sym (index-unique (0, P - 1) (2 ^ 29) (P-pos, lit< tt) ((λ i. (m31 .zero, minus-one i)) ∙ sym G-quarter))
+
+-- a quarter of a turn further lies (y, -x)
+pub index-turned : (k : ℕ) → indexPoint (k + 2 ^ 29) ≡ (indexPoint k .1, negP (indexPoint k .0))
+index-turned k =
+    sym (index-reduce (k + 2 ^ 29)) ∙ index-add k (2 ^ 29) ∙ ap (plus words31 (indexPoint k)) index-quarter
+    ∙ (λ i. (
+      solveWords words31 m31 m31-representation (indexPoint k .0 ∷ indexPoint k .1 ∷ [])
+          (plus exprs (v0, v1) (Expr.:0, :- Expr.:1) .0) v1 (m31-representation .add-reduced _ _) (index-below k .1) tt i,
+      solveWords words31 m31 m31-representation (indexPoint k .0 ∷ indexPoint k .1 ∷ [])
+          (plus exprs (v0, v1) (Expr.:0, :- Expr.:1) .1) (:- v0) (m31-representation .add-reduced _ _) (m31-representation .neg-reduced _) tt i,
+    ))
 
 -- half a turn further lies the antipode
 pub index-antipode : (k : ℕ) → indexPoint (k + 2 ^ 30) ≡ antipode words31 (indexPoint k)

@@ -9,7 +9,7 @@ use borrow.Author.Tests.{eqb-true}
 use Rattle.algebra.specs.M31.{P, m31, m31-laws, m31-field, element}
 use Rattle.algebra.specs.Homomorphism.{onPair}
 use Rattle.algebra.specs.Circle.{zeroPoint, OnCircle, doubleX}
-use Rattle.algebra.specs.CircleHomomorphism.{to-squares, to-doublings, to-doubleX}
+use Rattle.algebra.specs.CircleHomomorphism.{to-squares, to-doublings, to-doublingsX}
 use Rattle.algebra.specs.Doubling.{iterate, double, on-doublings, doublings-x, zero-by-x, doublings-31}
 use Rattle.fields.specs.Words.{words31}
 use Rattle.fields.specs.Elements.{element-homomorphism}
@@ -35,9 +35,7 @@ doubled-x-below zero x h = h
 doubled-x-below (suc n) x h = doubled-x-below n (doubleX words31 x) (m31-representation .add-reduced _ _)
 
 pub to-doubled-x : (n x : ℕ) → element (iterate n (doubleX words31) x) ≡ iterate n (doubleX m31) (element x)
-unfolding iterate
-to-doubled-x zero x = refl
-to-doubled-x (suc n) x = to-doubled-x n (doubleX words31 x) ∙ ap (iterate n (doubleX m31)) (to-doubleX words31 m31 element element-homomorphism x)
+to-doubled-x = to-doublingsX words31 m31 element element-homomorphism
 
 first-same : (s t : ℕ → Bool) (n : ℕ) → ((k : ℕ) → s k ≡ t k) → first s n ≡ first t n
 unfolding first

@@ -9,7 +9,7 @@ use Rattle.fields.specs.declared.refusal.Refusal.{Refusal}
 use Rattle.domains.specs.declared.domain.CircleDomain.{CircleDomain}
 use Rattle.domains.specs.declared.domain.CircleDomainAnswer.{CircleDomainAnswer}
 use Rattle.domains.specs.declared.domain.CircleDomainAnswer.the-variants.{Value, Refused}
-use Rattle.domains.specs.Listing.{listing}
+use Rattle.algebra.specs.Listing.{listing}
 use Rattle.domains.specs.Domain.{splitExit}
 
 pub listing-none : (f : ℕ → ℕ) (l : List ℕ) → l ≡ listing 0 f ++ drop 0 l

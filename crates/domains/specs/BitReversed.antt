@@ -10,7 +10,7 @@ use Rattle.algebra.specs.Circle.{plus}
 use Rattle.fields.specs.Words.{negP, words31}
 use Rattle.circle.specs.Formulas.{antipode}
 use Rattle.circle.specs.Index.{indexPoint}
-use Rattle.circle.specs.IndexPoints.{index-reduce, index-add, index-quarter, index-antipode, index-conjugate}
+use Rattle.circle.specs.IndexPoints.{index-reduce, index-add, index-quarter, index-turned, index-antipode, index-conjugate}
 use Rattle.orders.specs.BitReverse.{reverseBits, reversed-below, pair-first, pair-second, half-first, half-second, reversed-parts}
 use Rattle.orders.specs.Orders.{bitReverseIndex}
 use Rattle.orders.specs.OrderLaws.{index-from-one}
@@ -70,6 +70,37 @@ module _ (n m : ℕ) (lo : 2 ≤ n) (hi : n ≤ 30) where
 
   pub half-neighbour-x : halfPoint n (2 * m + 1) .0 ≡ negP (halfPoint n (2 * m) .0)
   half-neighbour-x = ap (λ (p : ℕ × ℕ). p .0) half-neighbour
+
+-- ---- 4m + 2 lies a quarter of a turn further than 4m, so its x is the other's y
+
+module _ (n m : ℕ) (lo : 3 ≤ n) (hi : n ≤ 30) where
+  half-index-turned : halfIndex n (4 * m + 2) ≡ halfIndex n (4 * m) + 2 ^ 29
+  half-index-turned =
+      omega (
+        arith,
+        unit-half n (omega arith) hi,
+        ap (λ (t : ℕ). unit n * t) (two-halves (n - 1) (omega arith) (omega arith)),
+        ap (λ (t : ℕ). unit n * t) (two-halves (n - 1 - 1) (omega arith) (omega arith)),
+        ap (λ (t : ℕ). unit n * t) (reversed (4 * m) (2 * m) even ∙ ap (λ (t : ℕ). reverseBits t (2 * m)) fewer ∙ pair-first (n - 1 - 1 - 1) m),
+        ap (λ (t : ℕ). unit n * t) (reversed (4 * m + 2) (2 * m + 1) odd ∙ ap (λ (t : ℕ). reverseBits t (2 * m + 1)) fewer ∙ pair-second (n - 1 - 1 - 1) m),
+      )
+    where
+      even : 4 * m ≡ 2 * (2 * m)
+      even = omega arith
+
+      odd : 4 * m + 2 ≡ 2 * (2 * m + 1)
+      odd = omega arith
+
+      fewer : n - 1 - 1 ≡ suc (n - 1 - 1 - 1)
+      fewer = omega arith
+
+      reversed : (p q : ℕ) → p ≡ 2 * q → reverseBits (n - 1) p ≡ reverseBits (n - 1 - 1) q
+      reversed p q e =
+          let bits : n - 1 ≡ suc (n - 1 - 1) = omega arith in
+          ap₂ reverseBits bits e ∙ pair-first (n - 1 - 1) q
+
+  pub half-turned : halfPoint n (4 * m + 2) ≡ (halfPoint n (4 * m) .1, negP (halfPoint n (4 * m) .0))
+  half-turned = ap indexPoint half-index-turned ∙ index-turned (halfIndex n (4 * m))
 
 -- ---- the half coset by additions: points 2^s to 2^(s + 1) - 1 lie 2^(30 - s) further than the 2^s before them
 

@@ -6,6 +6,7 @@ use mathlib.Core.List.{List, _++_}
 use lib.Dec.{ltb, eqb}
 use lib.ListN.{drop}
 use borrow.Author.Tests.{lt-ltb, le-ltb}
+use Rattle.algebra.specs.Listing.{listing}
 use Rattle.fields.specs.declared.refusal.Refusal.the-variants.{Length, Doublings}
 use Rattle.fields.specs.declared.answer.U64Answer.{U64Answer}
 use Rattle.fields.specs.declared.answer.U64Answer.the-variants as L
@@ -28,7 +29,6 @@ use Rattle.domains.specs.declared.iterator.CircleDomainIndexIterator.{Ci
 use Rattle.domains.specs.declared.iterator.CircleDomainIndexIteratorAnswer.{CircleDomainIndexIteratorAnswer}
 use Rattle.domains.specs.declared.iterator.CircleDomainIndexIteratorAnswer.the-variants as T
 use Rattle.domains.specs.Record.{passed}
-use Rattle.domains.specs.Listing.{listing}
 use Rattle.domains.specs.Coset.{check, checkWithIndex, cosetOf, indexAt, shifted, conjugated, iteratorOf}
 
 abbrev pub ofHalf : Coset → CircleDomain

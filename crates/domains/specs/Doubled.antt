@@ -1,19 +1,22 @@
 -- Doubling goes from the points of log size n + 1 to those of n; and no coordinate is zero but x at log size 1.
 use Prim.Native.Nat.{ℕ, suc, _+_, _-_, _*_, _/_, _%_, _^_, _≤_, _<_}
-use mathlib.Core.Path.{_≡_, sym, _∙_, ap}
+use mathlib.Core.Path.{_≡_, sym, _∙_, ap, ap₂}
 use mathlib.Core.List.{[], _∷_}
 use mathlib.Core.Logic.{_⊎_, inl, inr}
 use native.Mathlib.Nat as N
 use native.Mathlib.Omega.{arith}
 use lib.Pow as W
 use Rattle.algebra.specs.Ring.{two}
-use Rattle.algebra.specs.Polynomial.{_:*_, exprs, v0, v1}
-use Rattle.algebra.specs.M31.{m31}
+use Rattle.algebra.specs.Polynomial.{Expr, _:*_, :-_, exprs, given, v0, v1}
+use Rattle.algebra.specs.Solver.{solveFrom}
+use Rattle.algebra.specs.M31.{m31, m31-laws, element}
 use Rattle.algebra.specs.Circle.{plus, doubleX}
 use Rattle.algebra.specs.Doubling.{iterate, double}
-use Rattle.fields.specs.Words.{mulP, words31}
+use Rattle.algebra.specs.CircleHomomorphism.{to-doubleX}
+use Rattle.fields.specs.Words.{negP, mulP, words31}
+use Rattle.fields.specs.Elements.{element-homomorphism}
 use Rattle.fields.specs.Representation.{solveWords}
-use Rattle.fields.specs.Inverse.{m31-representation}
+use Rattle.fields.specs.Inverse.{m31-representation, minus-one}
 use Rattle.circle.specs.Index.{indexPoint}
 use Rattle.circle.specs.IndexPoints.{index-below, index-on, index-double, index-y-zero, index-x-zero}
 use Rattle.circle.specs.LogOrder.{doubled-x}
@@ -21,7 +24,7 @@ use Rattle.orders.specs.BitReverse.{reverseBits, reversed-below}
 use Rattle.orders.specs.Orders.{toCoset}
 use Rattle.domains.specs.Listing.{unit, domainIndex}
 use Rattle.domains.specs.ListingLaws.{two-halves, unit-half, half-bound, domain-first, domain-second, domain-at, domain-bound}
-use Rattle.domains.specs.BitReversed.{halfIndex, halfPoint, half-element}
+use Rattle.domains.specs.BitReversed.{halfIndex, halfPoint, half-element, half-point-one}
 
 -- each point of the domain of log size n is the double of two of log size n + 1, for n from 1 to 29
 pub record DomainDoubled (n : ℕ) : Type 0 where
@@ -100,6 +103,28 @@ module _ (n : ℕ) (lo : 1 ≤ n) (hi : n ≤ 29) where
       solveWords words31 m31 m31-representation (halfPoint (suc n) k .0 ∷ halfPoint (suc n) k .1 ∷ [])
       (two exprs :* (v0 :* v1)) (plus exprs (v0, v1) (v0, v1) .1) (m31-representation .mul-reduced _ _) (m31-representation .add-reduced _ _) tt
       ∙ ap (λ (p : ℕ × ℕ). p .1) (half-double k)
+
+-- at log size 2, where 2x² = 1 and 2xy = -1, y is -x
+pub half-two : (k : ℕ) → halfPoint 2 k .1 ≡ negP (halfPoint 2 k .0)
+half-two k =
+    m31-representation .injective y (negP x) (index-below (halfIndex 2 k) .1) (m31-representation .neg-reduced x)
+    (solveFrom m31 m31-laws (element x ∷ element y ∷ [])
+    (given (:- v1) (doubleX exprs v0) Expr.:0 ∷ given v0 (two exprs :* (v0 :* v1)) (:- Expr.:1) ∷ []) (x-zero, (xy-minus, tt)) v1 (:- v0) tt
+    ∙ sym (element-homomorphism .to-neg x))
+  where
+    x : ℕ
+    x = halfPoint 2 k .0
+
+    y : ℕ
+    y = halfPoint 2 k .1
+
+    x-zero : doubleX m31 (element x) ≡ m31 .zero
+    x-zero = sym (to-doubleX words31 m31 element element-homomorphism x) ∙ ap element (half-double-x 1 (omega arith) (omega arith) k ∙ ap (λ (p : ℕ × ℕ). p .0) (half-point-one (k / 2)))
+
+    xy-minus : m31 .mul (two m31) (m31 .mul (element x) (element y)) ≡ m31 .neg (m31 .one)
+    xy-minus =
+        ap₂ (m31 .mul) (sym (element-homomorphism .to-add 1 1)) (sym (element-homomorphism .to-mul x y)) ∙ sym (element-homomorphism .to-mul 2 (mulP x y))
+        ∙ ap element (half-double-y 1 (omega arith) (omega arith) k ∙ ap (λ (p : ℕ × ℕ). p .1) (half-point-one (k / 2))) ∙ minus-one
 
 -- ---- y = 0 holds at no point of a domain, and x = 0 only at those of log size 1
 

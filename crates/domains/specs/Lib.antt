@@ -13,4 +13,3 @@ pub mod PointSet
 pub mod CanonicDomain
 pub mod BitReversed
 pub mod Doubled
-pub mod Marked

@@ -1,13 +1,9 @@
 -- Document 01's lists of indices: the canonic coset of log size n, and its circle domain.
-use Prim.Native.Nat.{ℕ, zero, suc, _+_, _-_, _*_, _%_, _^_}
-use mathlib.Core.List.{List, [], _∷_, _++_, map}
+use Prim.Native.Nat.{ℕ, _+_, _-_, _*_, _%_, _^_}
+use mathlib.Core.List.{List, _++_, map}
 use lib.ListN.{getD}
+use Rattle.algebra.specs.Listing.{listing}
 use Rattle.circle.specs.Index.{negIndex}
-
--- f 0, f 1, .., so many of them
-unfoldable pub listing : ℕ → (ℕ → ℕ) → List ℕ
-listing zero f = []
-listing (suc count) f = f 0 ∷ listing count (λ i. f (suc i))
 
 -- h of log size n
 abbrev pub unit : ℕ → ℕ

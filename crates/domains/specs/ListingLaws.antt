@@ -1,27 +1,17 @@
 -- What stands at each place of the lists of indices.
-use Prim.Native.Nat.{ℕ, zero, suc, _+_, _-_, _*_, _%_, _^_, _≤_, _<_}
-use mathlib.Core.Path.{_≡_, refl, sym, _∙_, ap}
+use Prim.Native.Nat.{ℕ, suc, _+_, _-_, _*_, _%_, _^_, _≤_, _<_}
+use mathlib.Core.Path.{_≡_, sym, _∙_, ap}
 use mathlib.Core.List.{map}
 use native.Mathlib.Nat as N
 use native.Mathlib.Omega.{arith}
 use lib.ListN.{length, getD, length-append, length-map, List·getD-append, List·getD-map}
 use lib.Seq.{getD-append-add}
 use lib.Pow as W
+use Rattle.algebra.specs.Listing.{listing-length, listing-at}
 use Rattle.circle.specs.Index.{negIndex}
 use Rattle.orders.specs.Orders.{toDomain, toCoset}
 use Rattle.orders.specs.OrderLaws.{by-parity, even-to-domain, odd-to-domain, to-coset-below, to-domain-to-coset}
-use Rattle.domains.specs.Listing.{listing, unit, cosetIndex, halfIndices, domainIndices, domainIndex}
-
-pub listing-length : (count : ℕ) (f : ℕ → ℕ) → length (listing count f) ≡ count
-unfolding listing
-listing-length zero f = refl
-listing-length (suc count) f = ap suc (listing-length count (λ i. f (suc i)))
-
-pub listing-at : (count : ℕ) (f : ℕ → ℕ) (i : ℕ) → i < count → getD (listing count f) i 0 ≡ f i
-unfolding listing
-listing-at zero f i h = absurd (N.not-suc-le-zero h)
-listing-at (suc count) f zero h = refl
-listing-at (suc count) f (suc i) h = listing-at count (λ i. f (suc i)) i (N.le-of-suc-le-suc h)
+use Rattle.domains.specs.Listing.{unit, cosetIndex, halfIndices, domainIndices, domainIndex}
 
 module _ (n : ℕ) (lo : 1 ≤ n) (hi : n ≤ 30) where
   pub two-halves : 2 ^ n ≡ 2 * 2 ^ (n - 1)
@@ -48,7 +38,7 @@ module _ (n : ℕ) (lo : 1 ≤ n) (hi : n ≤ 30) where
   unfolding domainIndices
   domain-first i h =
       List·getD-append (halfIndices n) (map negIndex (halfIndices n)) 0 i (omega (arith, half-length))
-      ∙ listing-at (2 ^ (n - 1)) (λ i. unit n + 4 * unit n * i) i h
+      ∙ listing-at 0 (2 ^ (n - 1)) (λ i. unit n + 4 * unit n * i) i h
 
   pub domain-second : (i : ℕ) → i < 2 ^ (n - 1) → domainIndex n (2 ^ (n - 1) + i) ≡ 2 ^ 31 - (unit n + 4 * unit n * i)
   unfolding domainIndices
@@ -56,7 +46,7 @@ module _ (n : ℕ) (lo : 1 ≤ n) (hi : n ≤ 30) where
       ap (λ (t : ℕ). getD (domainIndices n) (t + i) 0) (sym half-length)
       ∙ getD-append-add (halfIndices n) (map negIndex (halfIndices n)) i 0
       ∙ List·getD-map negIndex (halfIndices n) i 0
-      ∙ ap negIndex (listing-at (2 ^ (n - 1)) (λ i. unit n + 4 * unit n * i) i h)
+      ∙ ap negIndex (listing-at 0 (2 ^ (n - 1)) (λ i. unit n + 4 * unit n * i) i h)
       ∙ N.mod-eq-of-lt (omega (arith, half-bound i h))
 
   odd-bound : (k : ℕ) → k < 2 ^ n → (0 < unit n * (2 * k + 1)) × (unit n * (2 * k + 1) < 2 ^ 31)

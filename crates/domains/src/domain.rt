@@ -3,7 +3,7 @@ ghost use mathlib.Core.Path.{_≡_};
 ghost use Prim.Native.Nat.{_*_, _%_, _^_, _≤_};
 ghost use mathlib.Core.List.{_++_};
 ghost use lib.ListN.{length, drop};
-ghost use Rattle.domains.specs.Listing.{listing};
+ghost use Rattle.algebra.specs.Listing.{listing};
 ghost use Rattle.domains.specs.Coset.{Fits};
 ghost use Rattle.domains.specs.Domain.{newAnswer, iterIndicesAnswer, sizeAnswer, logSizeAnswer, domainIndexAt, atAnswer, indexAtAnswer, isCanonicAnswer, splitAnswer, splitExit, shiftAnswer};
 use crate::coset::Coset;

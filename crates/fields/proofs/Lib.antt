@@ -2,5 +2,5 @@ pub mod Answers
 pub mod Reductions
 pub mod Powers
 pub mod Pairs
-pub mod Search
+pub mod Seen
 pub mod Wide

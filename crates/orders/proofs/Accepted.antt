@@ -6,7 +6,7 @@ use mathlib.Core.List.{List, _++_}
 use borrow.Author.Tests.{lt-ltb, le-ltb, eqb-true, leb-true, not-true, not-false}
 use lib.Dec.{leb, eqb}
 use lib.ListN.{length, drop}
-use Rattle.fields.proofs.Search.{found}
+use Rattle.fields.specs.SearchLaws.{found}
 use Rattle.fields.specs.declared.answer.WriteAnswer.the-variants.{Written, Refused}
 use Rattle.fields.specs.declared.refusal.Refusal.the-variants.{Length}
 use Rattle.orders.specs.Orders.{reordered, logSize, inPlaceAnswer, inPlaceExit, lengthsFit, copyAnswer, copyExit}

@@ -2,6 +2,7 @@
 pub mod batch_inverse;
 pub mod canonic_coset;
 pub mod circle_domain;
+pub mod circle_transform;
 pub mod cm31;
 pub mod column_orders;
 pub mod coset;

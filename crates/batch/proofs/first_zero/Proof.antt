@@ -5,7 +5,7 @@ use native.Mathlib.Nat as N
 use lib.ListN.{length}
 use borrow.Author.Needs.{needs}
 use Rattle.batch.specs.Batch.{columnOf}
-use Rattle.fields.proofs.Search.{None, none-start, none-next, first-at, first-none}
+use Rattle.fields.specs.SearchLaws.{None, none-start, none-next, first-at, first-none}
 use Rattle.batch.proofs.Batches.{zeroAt, width-positive, fits-whole}
 use Rattle.batch.proofs.first_zero.Statement.{statement}
 use Rattle.batch.proofs.first_zero.Tie as tie

@@ -4,7 +4,7 @@ use mathlib.Core.Path.{_≡_, refl, _∙_, ap}
 use native.Mathlib.Omega.{arith}
 use lib.ListN.{length, drop, length-set}
 use borrow.Author.Needs.{needs}
-use Rattle.domains.specs.Listing.{listing}
+use Rattle.algebra.specs.Listing.{listing}
 use Rattle.domains.proofs.Shifts.{listing-none, listing-next}
 use Rattle.domains.proofs.domain.write_shifts.Statement.{statement}
 use Rattle.domains.proofs.domain.write_shifts.Tie as tie

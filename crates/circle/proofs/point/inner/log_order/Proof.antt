@@ -6,7 +6,7 @@ use Rattle.algebra.specs.M31.{P}
 use Rattle.algebra.specs.Circle.{doubleX}
 use Rattle.algebra.specs.Doubling.{iterate, iterate-suc}
 use Rattle.fields.specs.Words.{words31}
-use Rattle.fields.proofs.Search.{None, none-start, none-next, first-at, first-none}
+use Rattle.fields.specs.SearchLaws.{None, none-start, none-next, first-at, first-none}
 use Rattle.circle.specs.Point.{pointOf}
 use Rattle.circle.specs.LogOrder.{isOneAfter, log-order-x}
 use borrow.Author.Needs.{needs}

@@ -4,7 +4,7 @@ use native.Mathlib.Omega.{arith}
 use borrow.Author.Tests.{eq-eqb, ne-eqb}
 use borrow.Author.Needs.{needs}
 use lib.Dec.{eqb}
-use Rattle.fields.proofs.Search.{None, none-start, none-next, first-at, first-none}
+use Rattle.fields.specs.SearchLaws.{None, none-start, none-next, first-at, first-none}
 use Rattle.orders.proofs.utils.inner.log_size.Statement.{statement}
 use Rattle.orders.proofs.utils.inner.log_size.Tie as tie
 

@@ -1,13 +1,15 @@
 -- The cases that document 01 marks, over the definitions that the contracts cite.
-use Prim.Native.Nat.{ℕ, _-_, _*_, _^_, _<_}
+use Prim.Native.Nat.{ℕ, zero, suc, _-_, _*_, _^_, _<_}
 use mathlib.Core.Path.{_≡_, refl, sym, _∙_, ap}
 use mathlib.Core.Bool.{false}
 use mathlib.Core.List.{List, [], _∷_, map}
+use native.Mathlib.Nat as N
 use native.Mathlib.Omega.{arith}
 use lib.Dec.{lit<, lit≤}
 use borrow.Author.Tests.{lt-leb, ne-eqb}
 use lib.IntN.{negsuc}
-use lib.ListN.{length}
+use lib.ListN.{length, getD}
+use Rattle.algebra.specs.Listing.{listing}
 use Rattle.algebra.specs.M31.{P}
 use Rattle.algebra.specs.Circle.{multiple}
 use Rattle.algebra.specs.Doubling.{iterate}
@@ -31,15 +33,18 @@ use Rattle.circle.specs.Index.{ofIndex, indexPoint, toPointAnswer}
 use Rattle.circle.specs.declared.point.CirclePointAnswer.the-variants as P
 use Rattle.orders.specs.BitReverse.{reverseBits}
 use Rattle.orders.specs.Orders.{logSize, inPlaceAnswer, inPlaceExit, wordsAt, cosetBitReversed, toDomain, offsetAnswer, offsetElement, previousAnswer}
 use Rattle.domains.specs.declared.coset.CosetAnswer.the-variants as K
 use Rattle.domains.specs.declared.domain.CircleDomainAnswer.the-variants as D
-use Rattle.domains.specs.Listing.{listing, unit, cosetIndex, domainIndices}
+use Rattle.domains.specs.Listing.{unit, cosetIndex, domainIndices}
 use Rattle.domains.specs.Record.{passed}
 use Rattle.domains.specs.Coset.{cosetOf, newAnswer, subgroupAnswer, doubled, sameCoset, isDoublingOf, isDoublingOfAnswer}
 use Rattle.domains.specs.CosetLaws.{fits-passes, two-pass, made-fits}
 use Rattle.domains.specs.CanonicDomain.{canonic-domain}
 use Rattle.domains.specs.Domain.{ofHalf, isCanonicAnswer}
 use Rattle.domains.specs.Canonic.{canonicOf, halfOf, circleDomainAnswer}
+use Rattle.column.specs.Column.{product, sum, combination, value, values}
+use Rattle.transform.specs.Transform.{positionPoint, Coefficients}
+use Rattle.transform.specs.Theorem.{Promise, theorem}
 
 -- ---- M31
 
@@ -150,3 +155,42 @@ complex-product = refl
 pub u-squared : Q.mulAnswer (ofPairs ((0, 0), (1, 0))) (ofPairs ((0, 0), (1, 0))) ≡ QA.Value (ofPairs ((2, 1), (0, 0)))
 unfolding Q.mulAnswer
 u-squared = refl
+
+-- ---- transform
+
+-- a constant has its value everywhere
+constant : (a : ℕ) (p : ℕ × ℕ) → a < P → value words31 2 (a ∷ 0 ∷ 0 ∷ 0 ∷ []) p ≡ a
+unfolding combination sum product
+constant a p h = simp (N.zero-mul, N.mul-one) (omega arith)
+
+-- n = 2: values 7 7 7 7 give coefficients 7 0 0 0
+pub sevens : Coefficients 2 (7 ∷ 0 ∷ 0 ∷ 0 ∷ []) (7 ∷ 7 ∷ 7 ∷ 7 ∷ [])
+unfolding values listing
+sevens = record {
+  column = record { size = refl; below = below };
+  give = λ i. seven 0 i ∷ seven 1 i ∷ seven 2 i ∷ seven 3 i ∷ [];
+}
+  where
+    seven : (p : ℕ) → value words31 2 (7 ∷ 0 ∷ 0 ∷ 0 ∷ []) (positionPoint 2 p) ≡ 7
+    seven p = constant 7 (positionPoint 2 p) (lit< tt)
+
+    below : (k : ℕ) → k < 4 → getD (7 ∷ 0 ∷ 0 ∷ 0 ∷ []) k 0 < P
+    below zero h = lit< tt
+    below (suc zero) h = lit< tt
+    below (suc (suc zero)) h = lit< tt
+    below (suc (suc (suc zero))) h = lit< tt
+    below (suc (suc (suc (suc k)))) h = absurd (omega arith)
+
+-- and no others
+pub only-sevens : (c : List ℕ) → Coefficients 2 c (7 ∷ 7 ∷ 7 ∷ 7 ∷ []) → c ≡ 7 ∷ 0 ∷ 0 ∷ 0 ∷ []
+only-sevens c h = promise .only c h ∙ sym (promise .only (7 ∷ 0 ∷ 0 ∷ 0 ∷ []) sevens)
+  where
+    below : (k : ℕ) → k < 4 → getD (7 ∷ 7 ∷ 7 ∷ 7 ∷ []) k 0 < P
+    below zero h = lit< tt
+    below (suc zero) h = lit< tt
+    below (suc (suc zero)) h = lit< tt
+    below (suc (suc (suc zero))) h = lit< tt
+    below (suc (suc (suc (suc k)))) h = absurd (omega arith)
+
+    promise : Promise 2 (7 ∷ 7 ∷ 7 ∷ 7 ∷ [])
+    promise = theorem 2 (lit≤ tt) (lit≤ tt) (7 ∷ 7 ∷ 7 ∷ 7 ∷ []) (record { size = refl; below = below })

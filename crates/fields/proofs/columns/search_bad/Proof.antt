@@ -4,10 +4,10 @@ use lib.ListN.{length, getD}
 use borrow.Author.Needs.{needs}
 use borrow.Author.Tests.{le-leb, lt-leb}
 use Rattle.algebra.specs.M31.{P}
-use Rattle.fields.proofs.Search.{None, none-start, none-next, first-at, first-none}
-use Rattle.batch.proofs.Batches.{isBad}
-use Rattle.batch.proofs.first_bad.Statement.{statement}
-use Rattle.batch.proofs.first_bad.Tie as tie
+use Rattle.fields.specs.Columns.{isBad}
+use Rattle.fields.specs.SearchLaws.{None, none-start, none-next, first-at, first-none}
+use Rattle.fields.proofs.columns.search_bad.Statement.{statement}
+use Rattle.fields.proofs.columns.search_bad.Tie as tie
 
 -- no word below i is bad
 abbrev Inv-loop : tie.InvT-loop
@@ -40,5 +40,5 @@ loop-again c = (search needs, none-next (isBad (c .before .before .before .befor
 returns-2 : tie.Need-returns-2 Inv-loop μ-loop
 returns-2 c = first-none (isBad (c .before .before .args .column .now)) _ _ (omega arith) (c .before .loop .inv .1)
 
-pub first-bad-spec : {M : Type 1} → statement M
-first-bad-spec = tie.close (tie.spec Inv-loop μ-loop loop-holds mul-if1 shared-slice-read-if1 returns add-i loop-less loop-again returns-2)
+pub search-bad-spec : {M : Type 1} → statement M
+search-bad-spec = tie.close (tie.spec Inv-loop μ-loop loop-holds mul-if1 shared-slice-read-if1 returns add-i loop-less loop-again returns-2)

@@ -1,0 +1,10 @@
+pub mod Column
+pub mod Butterflies
+pub mod Lists
+pub mod Sums
+pub mod Paths
+pub mod Inverse
+pub mod OneList
+pub mod Homomorphism
+pub mod Tree
+pub mod Blocks

@@ -1,0 +1,112 @@
+-- Multiples by a power of two modulo P, where 2^31 is 1.
+use Prim.Native.Nat.{ℕ, zero, suc, _+_, _-_, _*_, _/_, _%_, _^_, _≤_, _<_}
+use mathlib.Core.Path.{_≡_, refl, sym, _∙_, ap}
+use mathlib.Core.List.{List, [], _∷_}
+use native.Mathlib.Nat as N
+use native.Mathlib.Decide.{decLt}
+use native.Mathlib.Numerals.{add-one}
+use native.Mathlib.Omega.{arith}
+use lib.Arith.{digits-mod}
+use lib.ListN.{length, getD, set}
+use lib.Pow as W
+use Rattle.algebra.specs.M31.{P}
+use Rattle.fields.specs.Words.{mulP, words31}
+use Rattle.column.specs.Butterflies.{scaled}
+use Rattle.column.specs.Inverse.{scaled-length}
+use Rattle.transform.specs.Tree.{Words}
+use Rattle.transform.proofs.Halves.{over, over-length, over-at, over-next, over-all}
+
+-- a number of 31 bits in two parts, which change places: still below P, since not all bits are set
+parts-below : (p q u l : ℕ) → q * p ≡ 2147483648 → u < p → l < q → u * q + l < P → l * p + u < P
+parts-below p q u l e hu hl h = elim (decLt (suc l) q) [
+  | yes k ↦ omega (arith, N.mul-le-mul-right {m = suc (suc l)} {n = q} p k, N.suc-mul (suc l) p, N.suc-mul l p)
+  | no g ↦
+      let full : suc l ≡ q = omega arith in
+      let lower : l * p + p ≡ 2147483648 = sym (N.suc-mul l p) ∙ ap (λ (n : ℕ). n * p) full ∙ e in
+      elim (decLt (suc u) p) [
+        | yes m ↦ omega arith
+        | no m ↦
+            let all : suc u ≡ p = omega arith in
+            let upper : u * q + q ≡ 2147483648 = sym (N.suc-mul u q) ∙ ap (λ (n : ℕ). n * q) all ∙ N.mul-comm p q ∙ e in
+            absurd (omega arith)
+      ]
+]
+
+module _ (a s : ℕ) (h : a < P) (hi : s < 31) where
+  abbrev upper : ℕ
+  upper = a / 2 ^ (31 - s)
+
+  abbrev lower : ℕ
+  lower = a % 2 ^ (31 - s)
+
+  powers : 2 ^ (31 - s) * 2 ^ s ≡ 2147483648
+  powers =
+      let bits : 31 - s + s ≡ 31 = omega arith in
+      sym (W.pow-add 2 (31 - s) s) ∙ ap (λ (n : ℕ). 2 ^ n) bits
+
+  product : a * 2 ^ s ≡ upper * 2147483648 + lower * 2 ^ s
+  product =
+      ap (λ (n : ℕ). n * 2 ^ s) (sym (W.split a (31 - s))) ∙ N.add-mul (upper * 2 ^ (31 - s)) lower (2 ^ s)
+      ∙ ap (λ (n : ℕ). n + lower * 2 ^ s) (N.mul-assoc upper (2 ^ (31 - s)) (2 ^ s) ∙ ap (λ (n : ℕ). upper * n) powers)
+
+  shifted : a * 2 ^ s % 4294967296 % 2147483648 ≡ lower * 2 ^ s
+  shifted =
+      let small : lower * 2 ^ s < 2147483648 = omega (arith, N.mul-lt-mul-of-pos-right (N.mod-lt a (W.pow-pos (31 - s))) (W.pow-pos s), powers) in
+      W.mod-mod-pow (a * 2 ^ s) 1 31 ∙ ap (λ (n : ℕ). n % 2147483648) product ∙ digits-mod upper small
+
+  below : lower * 2 ^ s + upper < P
+  below =
+      let bits : 31 ≡ s + (31 - s) = omega arith in
+      let small : upper < 2 ^ s = W.shr-lt s (31 - s) (rw (← bits) (omega arith)) in
+      parts-below (2 ^ s) (2 ^ (31 - s)) upper lower powers small (N.mod-lt a (W.pow-pos (31 - s))) (rw (W.split a (31 - s)) h)
+
+  -- the bits turned by s places
+  pub turned-bits : a * 2 ^ s % 4294967296 % 2147483648 + a / 2 ^ (31 - s) ≡ mulP a (2 ^ s)
+  turned-bits =
+      let once : upper * 2147483648 + lower * 2 ^ s ≡ upper * P + (lower * 2 ^ s + upper) = omega arith in
+      ap (λ (n : ℕ). n + upper) shifted ∙ sym (ap (λ (n : ℕ). n % P) (product ∙ once) ∙ digits-mod upper below)
+
+-- ---- a column in the middle of a loop: its first i words are scaled
+
+scaled-at : (t : ℕ) (c : List ℕ) (i : ℕ) → i < length c → getD (scaled words31 t c) i 0 ≡ mulP (getD c i 0) t
+unfolding scaled
+scaled-at t [] i h = absurd (omega arith)
+scaled-at t (x ∷ c) zero h = refl
+scaled-at t (x ∷ c) (suc i) h = scaled-at t c i (omega arith)
+
+module _ (t : ℕ) (c : List ℕ) where
+  pub record Scaled (i : ℕ) (column : List ℕ) : Type 0 where
+    pub same : length column ≡ length c
+    pub before : i ≤ length c
+    pub is : column ≡ over c (scaled words31 t c) i
+
+  pub scaled-start : Scaled 0 c
+  scaled-start = record { same = refl; before = omega arith; is = refl }
+
+  pub scaled-end : (i : ℕ) (column : List ℕ) → Scaled i column → length column ≤ i → column ≡ scaled words31 t c
+  scaled-end i column v h =
+      let all : i ≡ length c = omega (arith, v .same, v .before) in
+      v .is ∙ over-all c (scaled words31 t c) i (scaled-length words31 t c ∙ sym all) (sym all)
+
+  -- in a turn
+  module _ (i : ℕ) (column : List ℕ) (v : Scaled i column) (h : i < length column) where
+    inside : i < length c
+    inside = omega (arith, v .same)
+
+    next : getD column i 0 ≡ getD c i 0
+    next = ap (λ (l : List ℕ). getD l i 0) (v .is) ∙ over-at c (scaled words31 t c) i (scaled-length words31 t c) inside
+
+    pub next-word : Words c → getD column i 0 < P
+    next-word w = rw next (w i)
+
+    pub scaled-next : (x : ℕ) → x ≡ mulP (getD column i 0) t → Scaled (i + 1) (set column i x)
+    scaled-next x e = record {
+      same = ap length is ∙ over-length c (scaled words31 t c) (i + 1) (scaled-length words31 t c) (omega (arith, inside));
+      before = omega (arith, inside);
+      is = is;
+    }
+      where
+        is : set column i x ≡ over c (scaled words31 t c) (i + 1)
+        is =
+            let word : x ≡ getD (scaled words31 t c) i 0 = e ∙ ap (λ (y : ℕ). mulP y t) next ∙ sym (scaled-at t c i inside) in
+            rw (v .is, word, add-one) (over-next c (scaled words31 t c) i (scaled-length words31 t c) inside)

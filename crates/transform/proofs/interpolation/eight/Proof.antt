@@ -1,0 +1,67 @@
+use mathlib.Core.Path.{_∙_}
+use borrow.Author.Needs.{needs}
+use Rattle.fields.specs.Words.{negP, words31}
+use Rattle.column.specs.Butterflies.{interpolateBlock}
+use Rattle.transform.specs.Tree.{pairTwiddle}
+use Rattle.transform.proofs.WordLaws.{words-take}
+use Rattle.transform.proofs.Eights.{first-length, second-length, second-words, both-parts}
+use Rattle.transform.proofs.interpolation.eight.Statement.{statement}
+use Rattle.transform.proofs.interpolation.eight.Tie as tie
+
+sub-four : tie.Need-sub-four
+sub-four c = search needs
+
+part-four-start : tie.Need-part-four-start
+part-four-start c = search needs
+
+part-four-end : tie.Need-part-four-end
+part-four-end c = search needs
+
+four-requires : tie.Need-four-requires
+four-requires c κs =
+    let s = c .before .before in
+    (first-length (s .args .block .now) (s .pre .0), search needs, search needs, words-take 4 (s .args .block .now) (s .pre .3))
+
+sub-four-turned : tie.Need-sub-four-turned
+sub-four-turned c = search needs
+
+part-four-turned-start : tie.Need-part-four-turned-start
+part-four-turned-start c = search needs
+
+part-four-turned-end : tie.Need-part-four-turned-end
+part-four-turned-end c = search needs
+
+four-turned-requires : tie.Need-four-turned-requires
+four-turned-requires c κs =
+    let four = c .before .before .before .four in
+    let s = c .before .before .before .before .before .before in
+    let size = four .kept .0 ∙ first-length (s .args .block .now) (s .pre .0) in
+    (second-length (s .args .block .now) (s .pre .0) (four .last .0) size, search needs, search needs, second-words (s .args .block .now) (s .pre .0) (four .last .0) size (s .pre .3))
+
+same-length : tie.Need-same-length
+same-length c = search needs
+
+returns : tie.Need-returns
+returns c =
+    let turned = c .before .before .four-turned in
+    let four = c .before .before .before .before .before .before .four in
+    let s = c .before .before .before .before .before .before .before .before .before in
+    let x = s .args .x in
+    let y = s .args .y in
+    both-parts (s .args .block .now) (s .pre .0) (four .last .0) (four .kept .0 ∙ first-length (s .args .block .now) (s .pre .0))
+    (interpolateBlock words31 2 (pairTwiddle x y (negP y)) 0) (interpolateBlock words31 2 (pairTwiddle y (negP x) x) 0) (turned .last .0) (four .ensures) (turned .ensures)
+
+pub eight-spec : {M : Type 1} → statement M
+eight-spec =
+    tie.close
+    (tie.spec
+    sub-four
+    part-four-start
+    part-four-end
+    four-requires
+    sub-four-turned
+    part-four-turned-start
+    part-four-turned-end
+    four-turned-requires
+    same-length
+    returns)

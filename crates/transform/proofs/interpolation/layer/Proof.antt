@@ -1,0 +1,130 @@
+use Prim.Native.Nat.{ℕ, _+_, _-_, _*_, _≤_}
+use mathlib.Core.Path.{refl}
+use mathlib.Core.List.{List}
+use native.Mathlib.Omega.{arith}
+use lib.ListN.{length, getD}
+use borrow.Author.Needs.{needs}
+use Rattle.fields.specs.Words.{words31}
+use Rattle.column.specs.Butterflies.{inverseButterflies}
+use Rattle.column.specs.Blocks.{inverse-length}
+use Rattle.transform.proofs.WordLaws.{words-inverse}
+use Rattle.transform.proofs.BlockLoops.{Turn, turn-start, turn-end, inside, part-length, part-words, turn-next}
+use Rattle.transform.proofs.interpolation.layer.Statement.{statement}
+use Rattle.transform.proofs.interpolation.layer.Tie as tie
+
+-- what a turn does to its block
+abbrev turned : ℕ → List ℕ → ℕ → List ℕ → List ℕ
+turned half tree j = inverseButterflies words31 half (getD tree j 0)
+
+abbrev Inv-loop : tie.InvT-loop
+Inv-loop column₀ tree node count half b₀ column b = Turn count (half + half) (turned half tree) node column₀ b column
+
+abbrev μ-loop : tie.MeasureT-loop
+μ-loop column₀ tree node count half b₀ column b = count - b
+
+in-column : (d : tie.In-loop Inv-loop μ-loop)
+    → let s = d .before .before .before .before .args in
+    d .before .loop .b * (s .half + s .half) + (s .half + s .half) ≤ length (d .before .loop .column)
+in-column d =
+    let s = d .before .before .before .before in
+    inside (s .args .count) (s .args .half + s .args .half) (turned (s .args .half) (s .args .tree .now)) (s .args .node) (s .args .column .now) (s .pre .0)
+    (d .before .loop .b) (d .before .loop .column) (d .before .loop .inv) (d .loop-test .taken) _ _ refl refl
+
+loop-holds : tie.Need-loop-holds Inv-loop μ-loop
+loop-holds c =
+    let s = c .before .before .args in
+    turn-start (s .count) (s .half + s .half) (turned (s .half) (s .tree .now)) (s .node) (s .column .now)
+
+add-start : tie.Need-add-start Inv-loop μ-loop
+add-start c = omega (arith, in-column c)
+
+mul-start : tie.Need-mul-start Inv-loop μ-loop
+mul-start c = omega (arith, in-column c)
+
+add-end : tie.Need-add-end Inv-loop μ-loop
+add-end c = omega (arith, in-column c)
+
+add-end-2 : tie.Need-add-end-2 Inv-loop μ-loop
+add-end-2 c = omega (arith, in-column c)
+
+mul-inverse-butterflies : tie.Need-mul-inverse-butterflies Inv-loop μ-loop
+mul-inverse-butterflies c = omega (arith, in-column c)
+
+sub-inverse-butterflies : tie.Need-sub-inverse-butterflies Inv-loop μ-loop
+sub-inverse-butterflies c = search needs
+
+part-inverse-butterflies-start : tie.Need-part-inverse-butterflies-start Inv-loop μ-loop
+part-inverse-butterflies-start c = search needs
+
+part-inverse-butterflies-end : tie.Need-part-inverse-butterflies-end Inv-loop μ-loop
+part-inverse-butterflies-end c = in-column c
+
+add-inverse-butterflies : tie.Need-add-inverse-butterflies Inv-loop μ-loop
+add-inverse-butterflies c = search needs
+
+mul-inverse-butterflies-2 : tie.Need-mul-inverse-butterflies-2 Inv-loop μ-loop
+mul-inverse-butterflies-2 c = search needs
+
+shared-slice-read-inverse-butterflies : tie.Need-shared-slice-read-inverse-butterflies Inv-loop μ-loop
+shared-slice-read-inverse-butterflies c = search needs
+
+inverse-butterflies-requires : tie.Need-inverse-butterflies-requires Inv-loop μ-loop
+inverse-butterflies-requires c κs =
+    let d = c .before .before in
+    let s = d .before .before .before .before in (
+      part-length (s .args .count) (s .args .half + s .args .half) (turned (s .args .half) (s .args .tree .now)) (s .args .node) (s .args .column .now) (s .pre .0)
+          (d .before .loop .b) (d .before .loop .column) (d .before .loop .inv) (d .loop-test .taken) _ _ refl refl,
+      s .pre .3 (s .args .node + d .before .loop .b),
+      part-words (s .args .count) (s .args .half + s .args .half) (turned (s .args .half) (s .args .tree .now)) (s .args .node) (s .args .column .now) (s .pre .0)
+          (d .before .loop .b) (d .before .loop .column) (d .before .loop .inv) (d .loop-test .taken) _ _ refl refl
+          (λ j l w. words-inverse (s .args .half) (getD (s .args .tree .now) j 0) l) (s .pre .2),
+    )
+
+add-b : tie.Need-add-b Inv-loop μ-loop
+add-b c = search needs
+
+loop-less : tie.Need-loop-less Inv-loop μ-loop
+loop-less c = search needs
+
+loop-again : tie.Need-loop-again Inv-loop μ-loop
+loop-again c =
+    let d = c .before .before .before .before .before in
+    let s = d .before .before .before .before in
+    turn-next (s .args .count) (s .args .half + s .args .half) (turned (s .args .half) (s .args .tree .now)) (s .args .node) (s .args .column .now) (s .pre .0)
+    (d .before .loop .b) (d .before .loop .column) (d .before .loop .inv) (d .loop-test .taken) _ _ refl refl
+    (λ j l e. inverse-length words31 (s .args .half) (getD (s .args .tree .now) j 0) l e)
+    (c .before .before .inverse-butterflies .last .0) (c .before .before .inverse-butterflies .ensures)
+
+same-length : tie.Need-same-length Inv-loop μ-loop
+same-length c = c .before .loop .inv .same
+
+returns : tie.Need-returns Inv-loop μ-loop
+returns c =
+    let s = c .before .before .before .before .args in
+    turn-end (s .count) (s .half + s .half) (turned (s .half) (s .tree .now)) (s .node) (s .column .now)
+    (c .before .loop .b) (c .before .loop .column) (c .before .loop .inv) (c .loop-test .left)
+
+pub layer-spec : {M : Type 1} → statement M
+layer-spec =
+    tie.close
+    (tie.spec
+    Inv-loop
+    μ-loop
+    loop-holds
+    add-start
+    mul-start
+    add-end
+    add-end-2
+    mul-inverse-butterflies
+    sub-inverse-butterflies
+    part-inverse-butterflies-start
+    part-inverse-butterflies-end
+    add-inverse-butterflies
+    mul-inverse-butterflies-2
+    shared-slice-read-inverse-butterflies
+    inverse-butterflies-requires
+    add-b
+    loop-less
+    loop-again
+    same-length
+    returns)

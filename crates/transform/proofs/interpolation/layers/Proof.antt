@@ -1,0 +1,113 @@
+use Prim.Native.Nat.{ℕ, _+_, _-_, _*_, _/_, _^_, _≤_}
+use mathlib.Core.Path.{_≡_, refl, ap}
+use mathlib.Core.List.{List}
+use native.Mathlib.Nat as N
+use native.Mathlib.Omega.{arith}
+use lib.ListN.{length}
+use borrow.Author.Needs.{needs}
+use Rattle.transform.specs.Tree.{Block}
+use Rattle.transform.proofs.InverseLayers.{Done, eights-size, eights-room, done-start, done-length, done-words, layer-size, layer-room, done-next, done-end}
+use Rattle.transform.proofs.interpolation.layers.Statement.{statement}
+use Rattle.transform.proofs.interpolation.layers.Tie as tie
+
+-- whatever block the first two layers are done of, t layers are done of it
+abbrev Inv-loop : tie.InvT-loop
+Inv-loop column₀ tree i k count₀ node₀ t₀ column count node t =
+    (block : List ℕ) (b : Block block tree i k) → Done block tree i k b 2 count₀ node₀ column₀ → Done block tree i k b t count node column
+
+abbrev μ-loop : tie.MeasureT-loop
+μ-loop column₀ tree i k count₀ node₀ t₀ column count node t = k - t
+
+in-tree : (length-column i k nodes : ℕ) → length-column ≡ 2 ^ k → (i + 1) * 2 ^ k ≤ 4 * nodes → i * (length-column / 4) ≤ nodes
+in-tree size i k nodes e room =
+    let quarter : 4 * (size / 4) ≤ size = omega arith in
+    omega (arith, ap (λ (n : ℕ). i * n) e, N.mul-le-mul-left i quarter)
+
+mul-node : tie.Need-mul-node Inv-loop μ-loop
+mul-node c =
+    let s = c .before .before in
+    omega (arith, in-tree (length (s .args .column .now)) (s .args .i) (s .args .k) (length (s .args .tree .now)) (s .pre .size) (s .pre .room))
+
+eights-requires : tie.Need-eights-requires Inv-loop μ-loop
+eights-requires c κs =
+    let s = c .before .before .before in (
+      eights-size (s .args .column .now) (s .args .tree .now) (s .args .i) (s .args .k) (s .pre) _ _ refl refl,
+      eights-room (s .args .column .now) (s .args .tree .now) (s .args .i) (s .args .k) (s .pre) _ _ refl refl,
+      s .pre .words,
+      s .pre .twiddles,
+    )
+
+loop-holds : tie.Need-loop-holds Inv-loop μ-loop
+loop-holds c = λ block b d. d
+
+-- the state of the loop, seen from the block at entry
+state : (d : tie.At-loop Inv-loop μ-loop)
+    → let s = d .before .before .before .before .before .before .before in
+    Done (s .args .column .now) (s .args .tree .now) (s .args .i) (s .args .k) (s .pre) (d .loop .t) (d .loop .count) (d .loop .node) (d .loop .column)
+state d =
+    let s = d .before .before .before .before .before .before .before in
+    let eights = d .before .before .before .eights in
+    d .loop .inv (s .args .column .now) (s .pre)
+    (done-start (s .args .column .now) (s .args .tree .now) (s .args .i) (s .args .k) (s .pre) _ _ refl refl (eights .last .0) (eights .ensures))
+
+two-to-requires : tie.Need-two-to-requires Inv-loop μ-loop
+two-to-requires c κs = omega (arith, c .before .before .before .before .before .before .before .before .pre .most)
+
+layer-requires : tie.Need-layer-requires Inv-loop μ-loop
+layer-requires c κs =
+    let d = c .before .before in
+    let at = d .before .loop in
+    let s = d .before .before .before .before .before .before .before .before in
+    let done = state (d .before) in (
+      layer-size (s .args .column .now) (s .args .tree .now) (s .args .i) (s .args .k) (s .pre) (at .t) (at .count) (at .node) (at .column) done (d .loop-test .taken)
+          (c .before .two-to .result) (c .before .two-to .ensures),
+      layer-room (s .args .column .now) (s .args .tree .now) (s .args .i) (s .args .k) (s .pre) (at .t) (at .count) (at .node) (at .column) done (d .loop-test .taken)
+          (c .before .two-to .result) (c .before .two-to .ensures),
+      done-words (s .args .column .now) (s .args .tree .now) (s .args .i) (s .args .k) (s .pre) (at .t) (at .count) (at .node) (at .column) done,
+      s .pre .twiddles,
+    )
+
+add-t : tie.Need-add-t Inv-loop μ-loop
+add-t c = search needs
+
+loop-less : tie.Need-loop-less Inv-loop μ-loop
+loop-less c = search needs
+
+loop-again : tie.Need-loop-again Inv-loop μ-loop
+loop-again c =
+    let layer = c .before .before .layer in
+    let power = c .before .before .before .before .two-to in
+    let d = c .before .before .before .before .before in
+    let at = d .before .loop in
+    let s = d .before .before .before .before .before .before .before .before in
+    λ block b done. done-next block (s .args .tree .now) (s .args .i) (s .args .k) b (at .t) (at .count) (at .node) (at .column) (at .inv block b done)
+    (d .loop-test .taken) (power .result) (power .ensures) (layer .last .0) (layer .ensures)
+
+same-length : tie.Need-same-length Inv-loop μ-loop
+same-length c =
+    let at = c .before .loop in
+    let s = c .before .before .before .before .before .before .before .before in
+    done-length (s .args .column .now) (s .args .tree .now) (s .args .i) (s .args .k) (s .pre) (at .t) (at .count) (at .node) (at .column) (state (c .before))
+
+returns : tie.Need-returns Inv-loop μ-loop
+returns c =
+    let at = c .before .loop in
+    let s = c .before .before .before .before .before .before .before .before in
+    done-end (s .args .column .now) (s .args .tree .now) (s .args .i) (s .args .k) (s .pre) (at .t) (at .count) (at .node) (at .column) (state (c .before)) (c .loop-test .left)
+
+pub layers-spec : {M : Type 1} → statement M
+layers-spec =
+    tie.close
+    (tie.spec
+    Inv-loop
+    μ-loop
+    mul-node
+    eights-requires
+    loop-holds
+    two-to-requires
+    layer-requires
+    add-t
+    loop-less
+    loop-again
+    same-length
+    returns)

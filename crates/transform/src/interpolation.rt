@@ -1,0 +1,210 @@
+// Interpolation by halves: inverse butterflies from the smallest distance up, then the factor 2^-n.
+ghost use mathlib.Core.Path.{_≡_};
+ghost use Prim.Native.Nat.{_+_, _*_, _^_, _≤_, _<_};
+ghost use lib.ListN.{length, getD, drop};
+ghost use Rattle.algebra.specs.M31.{P};
+ghost use Rattle.fields.specs.Words.{mulP, negP, words31};
+ghost use Rattle.column.specs.Butterflies.{inverseButterflies, interpolateBlock, scaled};
+ghost use Rattle.column.specs.Blocks.{blocks};
+ghost use Rattle.transform.specs.Transform.{Column, Coefficients};
+ghost use Rattle.transform.specs.Tree.{Words, nodeTwiddle, pairTwiddle, interpolateEight, Block, Unscaled};
+use crate::twiddles;
+use circle::index::inner::to_point;
+use fields::m31::P;
+use fields::m31::inner::add;
+use fields::m31::inner::mul;
+use fields::m31::inner::sub;
+use orders::utils::inner::two_to;
+
+const TWO_POW_31: u32 = 2147483648;
+
+// An inverse butterfly with the inverse t of the twiddle on each pair of words, half a block apart; not halved.
+fn inverse_butterflies(block: &mut [u32], half: usize, t: u32)
+    requires { ⌜ (length (now block) ≡ half + half) × (t < P) × Words (now block) ⌝ }
+    ensures { λ _. ⌜ now (block .exit) ≡ inverseButterflies words31 half t (now (block .entry)) ⌝ }
+{
+    let mut q: usize = 0;
+    while q < half {
+        let other = half + q;
+        let u = block[q];
+        let v = block[other];
+        block[q] = add(u, v);
+        block[other] = mul(sub(u, v), t);
+        q += 1;
+    }
+}
+
+// One layer: each of so many blocks of two halves, with the inverse twiddles from a node on.
+fn layer(column: &mut [u32], tree: &[u32], node: usize, count: usize, half: usize)
+    requires { ⌜ (length (now column) ≡ count * (half + half)) × (node + count ≤ length (now tree)) × Words (now column) × Words (now tree) ⌝ }
+    ensures { λ _. ⌜ now (column .exit) ≡ blocks count (half + half) (λ j. inverseButterflies words31 half (getD (now (tree .entry)) j 0)) node (now (column .entry)) ⌝ }
+{
+    let mut b: usize = 0;
+    while b < count {
+        let start = b * (half + half);
+        let end = start + (half + half);
+        inverse_butterflies(&mut column[start..end], half, tree[node + b]);
+        b += 1;
+    }
+}
+
+// Two layers on four words: v and -v for the pairs, w for the halves.
+fn four(block: &mut [u32], w: u32, v: u32)
+    requires { ⌜ (length (now block) ≡ 4) × (w < P) × (v < P) × Words (now block) ⌝ }
+    ensures { λ _. ⌜ now (block .exit) ≡ interpolateBlock words31 2 (pairTwiddle w v (negP v)) 0 (now (block .entry)) ⌝ }
+{
+    let a = block[0];
+    let b = block[1];
+    let c = block[2];
+    let d = block[3];
+    let p = add(a, b);
+    let q = mul(sub(a, b), v);
+    let m = add(c, d);
+    let n = mul(sub(d, c), v);
+    block[0] = add(p, m);
+    block[1] = add(q, n);
+    block[2] = mul(sub(p, m), w);
+    block[3] = mul(sub(q, n), w);
+}
+
+// The same with -v and v for the pairs.
+fn four_turned(block: &mut [u32], w: u32, v: u32)
+    requires { ⌜ (length (now block) ≡ 4) × (w < P) × (v < P) × Words (now block) ⌝ }
+    ensures { λ _. ⌜ now (block .exit) ≡ interpolateBlock words31 2 (pairTwiddle w (negP v) v) 0 (now (block .entry)) ⌝ }
+{
+    let a = block[0];
+    let b = block[1];
+    let c = block[2];
+    let d = block[3];
+    let p = add(a, b);
+    let q = mul(sub(b, a), v);
+    let m = add(c, d);
+    let n = mul(sub(c, d), v);
+    block[0] = add(p, m);
+    block[1] = add(q, n);
+    block[2] = mul(sub(p, m), w);
+    block[3] = mul(sub(q, n), w);
+}
+
+// The first two layers on the eight words below two siblings, which hold the inverses of x and y of one point.
+fn eight(block: &mut [u32], x: u32, y: u32)
+    requires { ⌜ (length (now block) ≡ 8) × (x < P) × (y < P) × Words (now block) ⌝ }
+    ensures { λ _. ⌜ now (block .exit) ≡ interpolateEight x y (now (block .entry)) ⌝ }
+{
+    four(&mut block[0..4], x, y);
+    four_turned(&mut block[4..8], y, x);
+}
+
+// The first two layers of so many blocks of eight words, below the nodes from `node` on.
+fn eights(column: &mut [u32], tree: &[u32], node: usize, count: usize)
+    requires { ⌜ (length (now column) ≡ count * 8) × (2 * (node + count) ≤ length (now tree)) × Words (now column) × Words (now tree) ⌝ }
+    ensures { λ _. ⌜ now (column .exit) ≡ blocks count 8 (λ j. interpolateEight (getD (now (tree .entry)) (2 * j) 0) (getD (now (tree .entry)) (2 * j + 1) 0)) node (now (column .entry)) ⌝ }
+{
+    let mut b: usize = 0;
+    while b < count {
+        let start = 8 * b;
+        let end = start + 8;
+        let child = 2 * (node + b);
+        eight(&mut column[start..end], tree[child], tree[child + 1]);
+        b += 1;
+    }
+}
+
+// A block of 2^k words below node i, layer by layer; 2^k times the coefficients.
+fn layers(column: &mut [u32], tree: &[u32], i: usize, k: u32)
+    requires { ⌜ Block (now column) (now tree) i k ⌝ }
+    ensures { λ _. ⌜ now (column .exit) ≡ interpolateBlock words31 k (nodeTwiddle (now (tree .entry))) i (now (column .entry)) ⌝ }
+{
+    let mut count = column.len() / 4;
+    let mut node = i * count;
+    eights(column, tree, node / 2, count / 2);
+    let mut t: u32 = 2;
+    while t < k {
+        let half = two_to(t) as usize;
+        count = count / 2;
+        node = node / 2;
+        layer(column, tree, node, count, half);
+        t += 1;
+    }
+}
+
+// A block of 2^k words below node i; 2^k times the coefficients. Blocks that fit the cache go layer by layer, longer ones
+// half by half.
+fn block(column: &mut [u32], tree: &[u32], i: usize, k: u32)
+    requires { ⌜ Block (now column) (now tree) i k ⌝ }
+    ensures { λ _. ⌜ now (column .exit) ≡ interpolateBlock words31 k (nodeTwiddle (now (tree .entry))) i (now (column .entry)) ⌝ }
+{
+    if k <= 14 {
+        layers(column, tree, i, k);
+        return;
+    }
+    let half = column.len() / 2;
+    block(&mut column[..half], tree, 2 * i, k - 1);
+    block(&mut column[half..], tree, 2 * i + 1, k - 1);
+    inverse_butterflies(column, half, tree[i]);
+}
+
+// a 2^s modulo P: since 2^31 is 1, its 31 bits turned by s places.
+fn turned(a: u32, s: u32) -> u32
+    requires { ⌜ (a < P) × (0 < s) × (s < 31) ⌝ }
+    ensures { λ r. ⌜ r ≡ mulP a (2 ^ s) ⌝ }
+{
+    (a << s) % TWO_POW_31 + (a >> (31 - s))
+}
+
+// Each word times 2^s.
+fn scale(column: &mut [u32], s: u32)
+    requires { ⌜ (0 < s) × (s < 31) × Words (now column) ⌝ }
+    ensures { λ _. ⌜ now (column .exit) ≡ scaled words31 (2 ^ s) (now (column .entry)) ⌝ }
+{
+    let mut i: usize = 0;
+    while i < column.len() {
+        column[i] = turned(column[i], s);
+        i += 1;
+    }
+}
+
+// y is -1 at log size 1.
+fn interpolate_two(column: &mut [u32])
+    requires { ⌜ Column 1 (now column) ⌝ }
+    ensures { λ _. ⌜ Unscaled 1 (now (column .entry)) (now (column .exit)) ⌝ }
+{
+    inverse_butterflies(column, 1, P - 1);
+}
+
+// y is -x at log size 2, and 1 / x is 2x.
+fn interpolate_four(column: &mut [u32])
+    requires { ⌜ Column 2 (now column) ⌝ }
+    ensures { λ _. ⌜ Unscaled 2 (now (column .entry)) (now (column .exit)) ⌝ }
+{
+    let p = to_point(two_to(28));
+    let x = p.x.0;
+    let inverse = add(x, x);
+    four_turned(column, inverse, inverse);
+}
+
+fn interpolate_unscaled(log_size: u32, column: &mut [u32], scratch: &mut [u32])
+    requires { ⌜ (1 ≤ «log_size») × («log_size» ≤ 30) × Column «log_size» (now column) × (2 ^ «log_size» ≤ length (now scratch)) ⌝ }
+    ensures { λ _. ⌜ Unscaled «log_size» (now (column .entry)) (now (column .exit)) × (length (now (scratch .exit)) ≡ length (now (scratch .entry))) × (drop (2 ^ «log_size») (now (scratch .exit)) ≡ drop (2 ^ «log_size») (now (scratch .entry))) ⌝ }
+{
+    if log_size == 1 {
+        interpolate_two(column);
+        return;
+    }
+    if log_size == 2 {
+        interpolate_four(column);
+        return;
+    }
+    let words = column.len() / 2;
+    twiddles::fill(&mut scratch[..words], log_size);
+    twiddles::invert(&mut scratch[..words]);
+    block(column, &scratch[..words], 1, log_size);
+}
+
+pub fn interpolate(log_size: u32, column: &mut [u32], scratch: &mut [u32])
+    requires { ⌜ (1 ≤ «log_size») × («log_size» ≤ 30) × Column «log_size» (now column) × (2 ^ «log_size» ≤ length (now scratch)) ⌝ }
+    ensures { λ _. ⌜ Coefficients «log_size» (now (column .exit)) (now (column .entry)) × (length (now (scratch .exit)) ≡ length (now (scratch .entry))) × (drop (2 ^ «log_size») (now (scratch .exit)) ≡ drop (2 ^ «log_size») (now (scratch .entry))) ⌝ }
+{
+    interpolate_unscaled(log_size, column, scratch);
+    scale(column, 31 - log_size);
+}
