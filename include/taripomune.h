@@ -215,4 +215,10 @@ tari_coset_reply tari_circle_domain_split(uint64_t initial_index, uint32_t initi
 tari_coset_reply tari_circle_domain_shift(uint64_t initial_index, uint32_t initial_x, uint32_t initial_y, uint64_t step_index, uint32_t step_x, uint32_t step_y, uint32_t log_size, uint64_t shift);
 tari_circle_domain_step_reply tari_circle_domain_index_iterator_next(uint64_t first_cur, uint64_t first_step, uint64_t first_remaining, uint64_t second_cur, uint64_t second_step, uint64_t second_remaining);
 
+/* The transform of a column of 2^log_size words, in place. Position p of a value column holds the value at the element
+ * bit_reverse_index(p, log_size) of the canonic circle domain; position j of a coefficient column holds coefficient j.
+ * The first 2^log_size words of scratch end as anything, and what they held isn't looked at. */
+tari_write_reply tari_evaluate(uint32_t log_size, uint32_t *column, uint64_t column_len, uint32_t *scratch, uint64_t scratch_len);
+tari_write_reply tari_interpolate(uint32_t log_size, uint32_t *column, uint64_t column_len, uint32_t *scratch, uint64_t scratch_len);
+
 #endif

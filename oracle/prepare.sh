@@ -1,5 +1,5 @@
-# Read by `run` and `run-speed`: makes the library where it is missing or old, and sees that the header declares just
-# what it exports. Leaves `cargo_run`, the words of a cargo command that both scripts have in common.
+# Read by `run`, `run-speed` and `run-largest`: makes the library where it is missing or old, and sees that the header
+# declares just what it exports. Leaves `cargo_run`, the words of a cargo command that the scripts have in common.
 root=$(dirname "$oracle")
 library=$root/target/staticlib/libtaripomune.a
 

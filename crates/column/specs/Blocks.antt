@@ -1,5 +1,5 @@
 -- A list in blocks of w elements, the first blocks of it rewritten one after the other: what the loops of the transform do.
-use Prim.Native.Nat.{ℕ, zero, suc, _+_, _-_, _*_, _^_, _<_, _≤_}
+use Prim.Native.Nat.{ℕ, zero, suc, _+_, _*_, _^_, _≤_}
 use mathlib.Core.Path.{_≡_, refl, sym, _∙_, ap, ap₂}
 use mathlib.Core.List.{List, _++_, append-assoc, append-nil, zipWith}
 use native.Mathlib.Nat as N

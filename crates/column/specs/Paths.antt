@@ -10,9 +10,9 @@ use lib.Dec.{eqb}
 use lib.ListN.{length, getD, take, drop, length-append, List·getD-append}
 use lib.Pow as W
 use lib.Seq.{getD-append-add}
-use Rattle.algebra.specs.Ring.{Ops, Laws, sub}
+use Rattle.algebra.specs.Ring.{Ops, Laws}
 use Rattle.algebra.specs.Ring as R
-use Rattle.algebra.specs.Polynomial.{Expr, _:+_, _:*_, v0, v1, v2, v3, v4, v5}
+use Rattle.algebra.specs.Polynomial.{_:+_, _:*_, v0, v1, v2, v3, v4, v5}
 use Rattle.algebra.specs.Solver.{solve}
 use Rattle.column.specs.Butterflies.{onHalves, butterflySum, butterflyDifference, evaluateBlock, byHalves, onTheWay}
 use Rattle.column.specs.Lists.{zip-at, zip-take, zip-drop, zip-equal, lower-length, upper-length, halves-length}

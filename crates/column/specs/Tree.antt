@@ -1,7 +1,7 @@
 -- Twiddles in a tree: block i of 2^(t + 1) elements, of 2^d such, has its twiddle at node 2^d + i, so that the root is node 1
 -- and the children of node j are 2j and 2j + 1.
 use Prim.Native.Nat.{ℕ, zero, suc, _+_, _*_, _^_, _<_}
-use mathlib.Core.Path.{_≡_, refl, sym, _∙_, ap, ap₂}
+use mathlib.Core.Path.{_≡_, refl, _∙_, ap, ap₂}
 use mathlib.Core.List.{List, _++_, zipWith}
 use native.Mathlib.Nat as N
 use native.Mathlib.Omega.{arith}

@@ -1,6 +1,6 @@
 -- The reductions modulo P by halves of 31 bits.
 use Prim.Native.Nat.{ℕ, zero, suc, _+_, _-_, _*_, _/_, _%_, _<_, _≤_}
-use mathlib.Core.Path.{_≡_, refl, _∙_}
+use mathlib.Core.Path.{_≡_, refl, _∙_, ap}
 use native.Mathlib.Nat.{mul-le-mul}
 use native.Mathlib.Decide.{decLt}
 use native.Mathlib.Omega.{arith}
@@ -30,8 +30,28 @@ product-below a b ha hb =
     omega (arith, mul-le-mul la lb)
 
 -- the bits from 31 on, added to those below
-halves : (v : ℕ) → (v % 2147483648 + v / 2147483648) % P ≡ v % P
+pub halves : (v : ℕ) → (v % 2147483648 + v / 2147483648) % P ≡ v % P
 halves v = omega arith
+
+-- a product p by w and by 2w: the bits of 2p divide at 32 where those of p divide at 31
+pub doubled-halves : (p : ℕ) → (2 * p) % 4294967296 / 2 + 2 * p / 4294967296 ≡ p % 2147483648 + p / 2147483648
+doubled-halves p =
+    let low : (2 * p) % 4294967296 / 2 ≡ p % 2147483648 = omega arith in
+    let high : 2 * p / 4294967296 ≡ p / 2147483648 = omega arith in
+    rw (low, high)
+
+-- that product, from what a sum modulo 2^32 says of 2w
+pub doubled-product : (a w twice : ℕ) → a < P → w < P → twice ≡ (w + w) % 4294967296 → (a * twice ≡ 2 * (a * w)) × (2 * (a * w) < 2 * (P * P))
+doubled-product a w twice ha hw e =
+    let double : twice ≡ 2 * w = omega arith in
+    (ap (λ (t : ℕ). a * t) double ∙ omega arith, omega (arith, product-below a w ha hw))
+
+pub halves-below : (p : ℕ) → p < P * P → p % 2147483648 + p / 2147483648 < 2 * P
+halves-below p h = omega arith
+
+-- the bit 31 added to the others leaves at most P
+pub partly : (s : ℕ) → s < 2 * P → (s % 2147483648 + s / 2147483648 ≤ P) × ((s % 2147483648 + s / 2147483648) % P ≡ s % P)
+partly s h = (omega arith, halves s)
 
 -- the same twice: small enough to be folded
 pub halves-small : (v : ℕ) → v < 18446744073709551616
@@ -46,7 +66,7 @@ halves-small v h =
 pub halves-twice : (v : ℕ) → ((v % 2147483648 + v / 2147483648) % 2147483648 + (v % 2147483648 + v / 2147483648) / 2147483648) % P ≡ v % P
 halves-twice v = halves (v % 2147483648 + v / 2147483648) ∙ halves v
 
-subP-less : (a b : ℕ) → a < b → b < P → subP a b ≡ a + (P - b)
+subP-less : (a b : ℕ) → a < b → b ≤ P → subP a b ≡ a + (P - b)
 subP-less a b l h =
     let n : (P - b % P) % P ≡ P - b = omega arith in
     rw n (omega arith)
@@ -61,7 +81,7 @@ subP-more a b l h = go b refl
         rw n (omega arith)
 
 -- a difference that wraps below 0, folded
-pub unwrap : (a b d : ℕ) → a < P → b < P → d < 4294967296 → (d + b) % 4294967296 ≡ a → (d - d / 2147483648) % 2147483648 ≡ subP a b
+pub unwrap : (a b d : ℕ) → a < P → b ≤ P → d < 4294967296 → (d + b) % 4294967296 ≡ a → (d - d / 2147483648) % 2147483648 ≡ subP a b
 unwrap a b d ha hb hd e = elim (decLt a b) [ yes l ↦ wrapped l | no l ↦ plain (omega arith) ]
   where
     wrapped : a < b → (d - d / 2147483648) % 2147483648 ≡ subP a b

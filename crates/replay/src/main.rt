@@ -2,6 +2,7 @@
 mod batch_inverse;
 mod canonic_coset;
 mod circle_domain;
+mod circle_transform;
 mod cm31;
 mod column_orders;
 mod coset;
@@ -28,6 +29,7 @@ enum Module {
     Coset,
     CanonicCoset,
     CircleDomain,
+    Transform,
 }
 
 struct Tally {
@@ -61,6 +63,7 @@ fn called(which: Module, name: &[u8], row: row::Row) -> row::Reply {
         Module::Coset => coset::called(name, row),
         Module::CanonicCoset => canonic_coset::called(name, row),
         Module::CircleDomain => circle_domain::called(name, row),
+        Module::Transform => circle_transform::called(name, row),
     }
 }
 
@@ -133,4 +136,5 @@ fn main() {
     replay(Module::Coset, b"coset.txt");
     replay(Module::CanonicCoset, b"canonic_coset.txt");
     replay(Module::CircleDomain, b"circle_domain.txt");
+    replay(Module::Transform, b"transform.txt");
 }

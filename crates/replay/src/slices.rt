@@ -17,7 +17,7 @@ pub fn length_at(numbers: [u64; MOST], i: usize) -> usize
 
 // The words from a place on, and 0 past the last.
 pub fn words_from(numbers: [u64; MOST], from: usize) -> [u32; MOST]
-    requires { ⌜ from ≤ 66 ⌝ }
+    requires { ⌜ from ≤ 67 ⌝ }
 {
     let mut words = [0u32; MOST];
     let mut i = 0;

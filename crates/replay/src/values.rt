@@ -190,6 +190,28 @@ pub fn written(r: WriteReply, dst: &[u32]) -> Reply {
     with_words(reply_of(r.number, r.position), dst)
 }
 
+// The words of scratch from `from` on.
+fn with_words_from(reply: Reply, scratch: &[u32], from: usize) -> Reply {
+    if from <= scratch.len() {
+        return with_words(reply, &scratch[from..]);
+    }
+    reply
+}
+
+// An accepted call leaves the first words of scratch, as many as the column has, as anything: they are recorded as they
+// were held before.
+pub fn transformed(r: WriteReply, column: &[u32], scratch: &[u32], held: &[u32]) -> Reply {
+    let size = column.len();
+    let reply = with_words(reply_of(r.number, r.position), column);
+    if r.number != 0 {
+        return with_words(reply, scratch);
+    }
+    if size <= held.len() {
+        return with_words_from(with_words(reply, &held[..size]), scratch, size);
+    }
+    reply
+}
+
 pub fn coset_written(r: CosetReply, dst: &[u32]) -> Reply {
     with_words(coset(r), dst)
 }

@@ -1,7 +1,7 @@
 -- What the checks of a call tell.
 use Prim.Native.Nat.{ℕ, _^_, _≤_, _<_}
 use mathlib.Core.Path.{_≡_, refl, sym, _∙_}
-use mathlib.Core.Bool.{Bool, true, false, cond, _&&_, and-eq-true-iff}
+use mathlib.Core.Bool.{Bool, true, false, cond, and-eq-true-iff}
 use mathlib.Core.List.{List}
 use native.Mathlib.Omega.{arith}
 use lib.Dec.{leb, ltb, eqb}
@@ -10,7 +10,6 @@ use borrow.Author.Tests.{leb-true, leb-false, ltb-false, eqb-true, le-leb, lt-le
 use Rattle.algebra.specs.M31.{P}
 use Rattle.fields.specs.Columns.{isBad, firstBad}
 use Rattle.fields.specs.SearchLaws.{none-found}
-use Rattle.fields.specs.declared.answer.WriteAnswer.{WriteAnswer}
 use Rattle.fields.specs.declared.answer.WriteAnswer.the-variants.{Written, Refused}
 use Rattle.fields.specs.declared.refusal.Refusal.{Refusal}
 use Rattle.fields.specs.declared.refusal.Refusal.the-variants.{LogSize, Length, Word}

@@ -1,5 +1,5 @@
 -- The steps that fill the tree: points by additions, then the levels above by doubling.
-use Prim.Native.Nat.{ℕ, suc, _+_, _-_, _*_, _/_, _%_, _^_, _≤_, _<_}
+use Prim.Native.Nat.{ℕ, suc, _+_, _-_, _*_, _/_, _^_, _≤_, _<_}
 use mathlib.Core.Path.{_≡_, refl, sym, _∙_, ap, ap₂}
 use mathlib.Core.List.{List, _++_}
 use native.Mathlib.Nat as N
@@ -87,32 +87,6 @@ module _ {n : ℕ} {level : List ℕ} (s count : ℕ) (lo : 2 ≤ s) (more : s +
   four =
       let bits : s ≡ suc (suc (s - 2)) = omega arith in
       omega (arith, ap (λ (t : ℕ). 2 ^ t) bits, N.two-pow-succ (suc (s - 2)), N.two-pow-succ (s - 2))
-
-  pub points-room : 4 * length level ≡ 2 ^ n → 4 * count ≤ length level
-  points-room e = omega (arith, four, whole, W.pow-mono {i = s} {j = n - 2} (omega arith))
-    where
-      whole : 2 ^ n ≡ 4 * 2 ^ (n - 2)
-      whole =
-          let bits : n ≡ suc (suc (n - 2)) = omega arith in
-          omega (arith, ap (λ (t : ℕ). 2 ^ t) bits, N.two-pow-succ (suc (n - 2)), N.two-pow-succ (n - 2))
-
-  pub points-below : (j : ℕ) → j < 2 * count → getD level j 0 < P
-  points-below j h = elim (decLt (j % 2) 1) [ yes l ↦ rw (even (omega arith)) (below .0) | no g ↦ rw (odd (omega arith)) (below .1) ]
-    where
-      c : ℕ
-      c = j / 2
-
-      point : pointAt level c ≡ halfPoint n (4 * c)
-      point = p .each c (omega arith)
-
-      below : (halfPoint n (4 * c) .0 < P) × (halfPoint n (4 * c) .1 < P)
-      below = index-below (halfIndex n (4 * c))
-
-      even : j ≡ 2 * c → getD level j 0 ≡ halfPoint n (4 * c) .0
-      even e = ap (λ (k : ℕ). getD level k 0) e ∙ ap (λ (q : ℕ × ℕ). q .0) point
-
-      odd : j ≡ 2 * c + 1 → getD level j 0 ≡ halfPoint n (4 * c) .1
-      odd e = ap (λ (k : ℕ). getD level k 0) e ∙ ap (λ (q : ℕ × ℕ). q .1) point
 
   pub points-next : (step : ℕ × ℕ) (exit : List ℕ) → step ≡ indexPoint (2 ^ (30 - s)) → Extended count step level exit → Points n (2 ^ (s + 1 - 2)) exit
   points-next step exit e x = record {

@@ -1,13 +1,12 @@
 -- Two layers on four words.
-use Prim.Native.Nat.{ℕ, zero, suc, _+_, _*_}
-use mathlib.Core.Path.{_≡_, refl, sym, _∙_, ap, ap₂}
+use Prim.Native.Nat.{ℕ, _+_, _*_}
+use mathlib.Core.Path.{_≡_, refl, sym, _∙_, ap}
 use mathlib.Core.List.{List, [], _∷_, _++_, zipWith}
 use native.Mathlib.Omega.{arith}
 use lib.ListN.{length, getD, set, take, drop}
-use Rattle.algebra.specs.Ring.{sub}
 use Rattle.algebra.specs.Polynomial.{_:+_, _:*_, :-_, v0, v1, v2}
 use Rattle.algebra.specs.M31.{m31}
-use Rattle.fields.specs.Words.{addP, subP, mulP, negP, words31}
+use Rattle.fields.specs.Words.{negP, words31}
 use Rattle.fields.specs.Representation.{solveWords}
 use Rattle.fields.specs.Inverse.{m31-representation}
 use Rattle.column.specs.Butterflies.{onHalves, butterflySum, butterflyDifference, evaluateBlock, inverseSum, inverseDifference, interpolateBlock}

@@ -1,6 +1,6 @@
 -- A block of 2^k values below node i between two layers of its interpolation: its parts of 2^t words are done.
 use Prim.Native.Nat.{ℕ, suc, _+_, _-_, _*_, _/_, _^_, _≤_, _<_}
-use mathlib.Core.Path.{_≡_, refl, sym, _∙_, ap, ap₂}
+use mathlib.Core.Path.{_≡_, sym, _∙_, ap, ap₂}
 use mathlib.Core.List.{List, _++_}
 use native.Mathlib.Nat as N
 use native.Mathlib.Omega.{arith}

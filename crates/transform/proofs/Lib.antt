@@ -14,3 +14,4 @@ pub mod Whole
 pub mod Scaling
 pub mod InverseLayers
 pub mod Checks
+pub mod Steps

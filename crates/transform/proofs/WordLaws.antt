@@ -1,12 +1,12 @@
 -- Words stay below P.
-use Prim.Native.Nat.{ℕ, zero, suc, _+_, _*_, _^_, _<_}
-use mathlib.Core.Path.{_≡_}
+use Prim.Native.Nat.{ℕ, zero, suc, _+_, _-_, _*_, _%_, _^_, _<_}
+use mathlib.Core.Path.{_≡_, sym, _∙_, ap}
 use mathlib.Core.List.{List, [], _∷_, _++_, zipWith}
-use native.Mathlib.Omega.{arith}
-use lib.ListN.{length, getD, take, drop}
+use native.Mathlib.Nat as N
+use lib.ListN.{take, drop}
 use lib.Seq.{getD-drop}
 use Rattle.algebra.specs.M31.{P, P-pos}
-use Rattle.fields.specs.Words.{words31}
+use Rattle.fields.specs.Words.{addP, subP, words31}
 use Rattle.fields.specs.Inverse.{m31-representation}
 use Rattle.column.specs.Butterflies.{onHalves, butterflySum, butterflyDifference, butterflies, evaluateBlock, inverseSum, inverseDifference, inverseButterflies, interpolateBlock, scaled}
 use Rattle.column.specs.Blocks.{blocks}
@@ -94,3 +94,11 @@ unfolding blocks
 words-blocks zero w F h i c wc = wc
 words-blocks (suc count) w F h i c wc =
     words-append (F i (take w c)) (blocks count w F (i + 1) (drop w c)) (h i (take w c) (words-take w c wc)) (words-blocks count w F h (i + 1) (drop w c) (words-drop w c wc))
+
+-- ---- sums and differences with a number that is reduced only by them
+
+pub add-partly : (u v m : ℕ) → v % P ≡ m → addP u v ≡ addP u m
+add-partly u v m e = sym (N.add-mod-mod u v P) ∙ ap (λ (t : ℕ). (u + t) % P) e
+
+pub sub-partly : (u v m : ℕ) → v % P ≡ m → subP u v ≡ subP u m
+sub-partly u v m e = ap (λ (t : ℕ). (u + (P - t) % P) % P) (sym (N.mod-mod v P) ∙ ap (λ (t : ℕ). t % P) e)

@@ -1,19 +1,16 @@
 -- What the transform promises, for every log size from 1 to 30: each list of 2^n values below P comes from exactly one list
 -- of 2^n coefficients below P; interpolation leaves it, and evaluation of it leaves the values, whatever scratch held; the
 -- domain has 2^n different points, exactly those of the circle whose x becomes 0 in n - 1 doublings.
-use Prim.Native.Nat.{ℕ, _^_, _≤_, _<_}
+use Prim.Native.Nat.{ℕ, _^_, _≤_}
 use mathlib.Core.Path.{_≡_, refl, sym, _∙_, ap, subst}
-use mathlib.Core.Bool.{cond}
 use mathlib.Core.List.{List}
 use native.Mathlib.Omega.{arith}
 use lib.ListN.{length, getD, length-map}
-use lib.Dec.{leb, ltb, eqb}
 use borrow.Author.Tests.{le-leb, lt-leb, eq-eqb, le-ltb}
 use Rattle.algebra.specs.M31.{P, m31}
 use Rattle.fields.specs.Columns.{isBad, firstBad}
 use Rattle.fields.specs.declared.answer.WriteAnswer.{WriteAnswer}
-use Rattle.fields.specs.declared.answer.WriteAnswer.the-variants.{Written, Refused}
-use Rattle.fields.specs.declared.refusal.Refusal.the-variants.{LogSize, Length, Word}
+use Rattle.fields.specs.declared.answer.WriteAnswer.the-variants.{Written}
 use Rattle.fields.specs.SearchLaws.{first-none}
 use Rattle.domains.specs.PointSet.{PointSet, point-set}
 use Rattle.column.specs.Column.{values}

@@ -8,6 +8,7 @@ use lib.ListN.{length, getD, take, drop}
 use Rattle.algebra.specs.M31.{P}
 use Rattle.algebra.specs.Circle.{plus, doubleX}
 use Rattle.fields.specs.Words.{mulP, negP, words31}
+use Rattle.circle.specs.Index.{indexPoint}
 use Rattle.domains.specs.BitReversed.{halfPoint}
 use Rattle.column.specs.Butterflies.{evaluateBlock, interpolateBlock, scaled}
 use Rattle.transform.specs.Transform.{Coefficients}
@@ -73,6 +74,11 @@ pub record Points (n count : ℕ) (level : List ℕ) : Type 0 where
 pub record Extended (count : ℕ) (step : ℕ × ℕ) (level exit : List ℕ) : Type 0 where
   pub kept : (c : ℕ) → c < count → pointAt exit c ≡ pointAt level c
   pub added : (c : ℕ) → c < count → pointAt exit (count + c) ≡ plus words31 (pointAt level c) step
+
+-- the points that the steps up to bit s give, from the first one on; step is that of bit s
+pub record Stepped (s : ℕ) (step : ℕ × ℕ) (level exit : List ℕ) : Type 0 where
+  pub below : (j : ℕ) → j < 2 ^ s → getD exit j 0 < P
+  pub points : (n : ℕ) → s + 2 ≤ n → n ≤ 30 → step ≡ indexPoint (2 ^ (30 - s)) → Points n 1 level → Points n (2 ^ (s - 1)) exit
 
 -- the nodes first, .., 2 first - 1 from their left children, the others as they were
 pub record Doubled (first : ℕ) (tree exit : List ℕ) : Type 0 where

@@ -1,6 +1,6 @@
 -- The tree holds the domain's twiddles, and its inverse holds theirs.
 use Prim.Native.Nat.{ℕ, zero, suc, _+_, _-_, _*_, _/_, _%_, _^_, _≤_, _<_}
-use mathlib.Core.Path.{_≡_, refl, sym, _∙_, ap, ap₂}
+use mathlib.Core.Path.{_≡_, sym, _∙_, ap, ap₂}
 use mathlib.Core.Bool.{cond}
 use mathlib.Core.List.{List, [], _∷_}
 use native.Mathlib.Nat as N
@@ -21,7 +21,7 @@ use Rattle.circle.specs.IndexPoints.{index-below}
 use Rattle.domains.specs.BitReversed.{halfIndex, halfPoint, half-neighbour, half-turned, half-point-one}
 use Rattle.domains.specs.Doubled.{half-double-x, half-double-y, half-two}
 use Rattle.column.specs.Tree.{Holds}
-use Rattle.transform.specs.Tree.{Words, LinesFrom, LineTree, turned, nodeTwiddle, beside, Invertible, Inverted}
+use Rattle.transform.specs.Tree.{Words, LineTree, turned, nodeTwiddle, beside, Invertible, Inverted}
 use Rattle.transform.specs.Twiddles.{twiddle, even-or-odd}
 use Rattle.transform.specs.Elements.{fieldTwiddle, fieldInverse}
 

@@ -1,12 +1,11 @@
 -- The twiddles of the circle domain, as words: each is a factor at the points of its block, negated in the block's upper half.
 use Prim.Native.Nat.{ℕ, zero, suc, _+_, _-_, _*_, _/_, _%_, _^_, _≤_, _<_}
-use mathlib.Core.Path.{_≡_, refl, sym, _∙_, ap, ap₂}
-use mathlib.Core.Bool.{Bool, cond}
+use mathlib.Core.Path.{_≡_, sym, _∙_, ap, ap₂}
+use mathlib.Core.Bool.{cond}
 use native.Mathlib.Nat as N
 use native.Mathlib.Decide.{decLt}
 use native.Mathlib.Omega.{arith}
 use lib.Dec.{eqb}
-use lib.Pow as W
 use Rattle.algebra.specs.Circle.{doubleX}
 use Rattle.algebra.specs.Doubling.{iterate, iterate-suc}
 use Rattle.fields.specs.Words.{negP, words31}

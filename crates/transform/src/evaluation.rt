@@ -13,6 +13,7 @@ use circle::index::inner::to_point;
 use fields::m31::P;
 use fields::m31::inner::add;
 use fields::m31::inner::mul;
+use fields::m31::inner::mul_partly;
 use fields::m31::inner::sub;
 use orders::utils::inner::two_to;
 
@@ -25,7 +26,7 @@ fn butterflies(block: &mut [u32], half: usize, w: u32)
     while q < half {
         let other = half + q;
         let u = block[q];
-        let v = mul(block[other], w);
+        let v = mul_partly(block[other], w);
         block[q] = add(u, v);
         block[other] = sub(u, v);
         q += 1;

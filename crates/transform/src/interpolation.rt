@@ -13,6 +13,7 @@ use circle::index::inner::to_point;
 use fields::m31::P;
 use fields::m31::inner::add;
 use fields::m31::inner::mul;
+use fields::m31::inner::mul_by;
 use fields::m31::inner::sub;
 use orders::utils::inner::two_to;
 
@@ -29,7 +30,7 @@ fn inverse_butterflies(block: &mut [u32], half: usize, t: u32)
         let u = block[q];
         let v = block[other];
         block[q] = add(u, v);
-        block[other] = mul(sub(u, v), t);
+        block[other] = mul_by(sub(u, v), t);
         q += 1;
     }
 }

@@ -6,7 +6,7 @@ ghost use lib.ListN.{length, getD};
 ghost use Rattle.algebra.specs.M31.{P};
 ghost use Rattle.fields.specs.Words.{mulP};
 ghost use Rattle.circle.specs.Point.{pointOf, Reduced};
-ghost use Rattle.transform.specs.Tree.{Words, LinesFrom, LineTree, beside, Invertible, Inverted, Points, Extended, Doubled};
+ghost use Rattle.transform.specs.Tree.{Words, LinesFrom, LineTree, beside, Invertible, Inverted, Points, Extended, Stepped, Doubled};
 use circle::index::inner::to_point;
 use circle::point::CirclePoint;
 use circle::point::inner as point;
@@ -34,7 +34,21 @@ fn add_points(level: &mut [u32], count: usize, step: CirclePoint)
     }
 }
 
-// The last level: point c has its x at word 2c and its y at word 2c + 1. With every bit of c one more power of G is added.
+// The first 2^(s - 1) points: with every bit of c one more power of G is added. The step of a bit is half that of the bit
+// before it.
+fn add_steps(level: &mut [u32], s: u32, step: CirclePoint)
+    requires { ⌜ (1 ≤ s) × (s ≤ 28) × (2 ^ s ≤ length (now level)) × (getD (now level) 0 0 < P) × (getD (now level) 1 0 < P) × Reduced step ⌝ }
+    ensures { λ _. ⌜ Stepped s (pointOf step) (now (level .entry)) (now (level .exit)) ⌝ }
+{
+    if s < 2 {
+        return;
+    }
+    add_steps(level, s - 1, point::add(step, step));
+    let count = two_to(s - 2) as usize;
+    add_points(level, count, step);
+}
+
+// The last level: point c has its x at word 2c and its y at word 2c + 1.
 fn fill_points(level: &mut [u32], log_size: u32)
     requires { ⌜ (3 ≤ «log_size») × («log_size» ≤ 30) × (4 * length (now level) ≡ 2 ^ «log_size») ⌝ }
     ensures { λ _. ⌜ Points «log_size» (2 ^ («log_size» - 3)) (now (level .exit)) ⌝ }
@@ -42,12 +56,8 @@ fn fill_points(level: &mut [u32], log_size: u32)
     let start = to_point(two_to(30 - log_size));
     level[0] = start.x.0;
     level[1] = start.y.0;
-    let mut s: u32 = 2;
-    while s + 1 < log_size {
-        let count = two_to(s - 2) as usize;
-        add_points(level, count, to_point(two_to(30 - s)));
-        s += 1;
-    }
+    let twice = point::add(start, start);
+    add_steps(level, log_size - 2, point::add(twice, twice));
 }
 
 // The nodes first, .., 2 first - 1 from their children.

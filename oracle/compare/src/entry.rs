@@ -3,6 +3,7 @@
 use crate::kinds::Kind;
 use common::args::Args;
 use common::element::{point_words, Element};
+use std::ops::Range;
 use stwo::core::circle::{CirclePoint, CirclePointIndex};
 
 /// A function to compare: how its arguments are drawn and refused, and what the Rust answers where they aren't.
@@ -11,10 +12,15 @@ pub struct Entry {
     pub takes: &'static [Kind],
     /// The values, then the words of the slices lent for writing, as the call leaves them.
     pub rust: fn(&mut Args) -> Vec<u64>,
+    /// If an accepted call leaves some words as anything, which of the values these are. `rust` gives what they held.
+    pub free: Option<Free>,
 }
 
+/// Places of the values, by the numbers of the input.
+pub type Free = fn(&[i128]) -> Range<usize>;
+
 pub const fn entry(name: &'static str, takes: &'static [Kind], rust: fn(&mut Args) -> Vec<u64>) -> Entry {
-    Entry { name, takes, rust }
+    Entry { name, takes, rust, free: None }
 }
 
 /// The values of an answer that is one element.

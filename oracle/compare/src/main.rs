@@ -4,6 +4,7 @@ mod batch;
 mod canonic_coset;
 mod check;
 mod circle_domain;
+mod circle_fft;
 mod circle_kinds;
 mod cm31;
 mod columns;
@@ -14,6 +15,7 @@ mod entry;
 mod index;
 mod inputs;
 mod kinds;
+mod long_columns;
 mod m31;
 mod orders;
 mod orders_kinds;
@@ -21,11 +23,14 @@ mod point;
 mod qm31;
 mod record;
 mod secure_point;
+mod transform;
+mod transform_kinds;
 mod walk;
 
 use check::{check, Tally};
 use common::library::{Function, FUNCTIONS};
 use entry::Entry;
+use long_columns::{check_long_columns, DIRECTIONS};
 use std::fs;
 use std::path::{Path, PathBuf};
 use std::process::ExitCode;
@@ -45,6 +50,7 @@ const MODULES: &[(&str, &[Entry], usize)] = &[
     ("coset", coset::ENTRIES, 4_200),
     ("canonic_coset", canonic_coset::ENTRIES, 5_000),
     ("circle_domain", circle_domain::ENTRIES, 6_000),
+    ("transform", transform::ENTRIES, 16_000),
 ];
 
 /// `replay` reads shorter files only.
@@ -94,6 +100,9 @@ fn run(options: Options) -> Result<(), String> {
     for walk in &WALKS {
         add(&mut total, walk.name, check_walk(walk, options.seed));
     }
+    for direction in &DIRECTIONS {
+        add(&mut total, direction.name, check_long_columns(direction, options.seed));
+    }
     print("total", &total);
     if total.different != 0 {
         return Err(format!("{} answers differ", total.different));
@@ -132,7 +141,9 @@ fn function(entry: &Entry) -> Result<&'static Function, String> {
 fn record_all(folder: &Path, seed: u64) -> Result<(), String> {
     for (module, entries, share) in MODULES {
         let functions = entries.iter().map(function).collect::<Result<Vec<_>, _>>()?;
-        let mut text = record::header(module, functions.iter().any(|function| function.slices), seed);
+        let slices = functions.iter().any(|function| function.slices);
+        let free = entries.iter().any(|entry| entry.free.is_some());
+        let mut text = record::header(module, slices, free, seed);
         for (entry, function) in entries.iter().zip(functions) {
             text += &record::lines(entry, function, seed, *share)?;
         }

@@ -10,7 +10,7 @@ use common::random::Random;
 const MOST_NUMBERS: usize = 64;
 
 /// What the list is and how it was made.
-pub fn header(module: &str, slices: bool, seed: u64) -> String {
+pub fn header(module: &str, slices: bool, free: bool, seed: u64) -> String {
     let text = format!(
         "# Answers of the functions with C linkage: {module}.\n\
          # Recorded by `oracle/` with seed {seed}, beside the Rust of starkware-libs/stwo, commit 826591c6c3.\n\
@@ -20,7 +20,8 @@ pub fn header(module: &str, slices: bool, seed: u64) -> String {
     );
     let slice =
         "# A slice is its length and then its words; a destination's words, as the call leaves them, are values.\n";
-    text + if slices { slice } else { "" }
+    let scratch = "# Where NUMBER is 0, the first words of scratch end as anything: they are recorded as they were.\n";
+    text + if slices { slice } else { "" } + if free { scratch } else { "" }
 }
 
 /// The lines of a function, about `share` bytes at most; an error where the library doesn't answer as it should.

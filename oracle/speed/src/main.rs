@@ -2,16 +2,22 @@
 
 mod measure;
 mod rows;
+mod transform;
+mod transform_rows;
+mod twiddles;
 
 use measure::Row;
+use rows::ROWS;
 use std::process::ExitCode;
+use transform_rows::{avx2_rows, TRANSFORM_ROWS};
 
 /// The rows are measured so many times one after the other, and the best times taken: a disturbance that lasts as long
 /// as a row doesn't decide it.
 const VISITS: usize = 3;
 
 fn main() -> ExitCode {
-    let visits = (0..VISITS).map(|_| rows::ROWS.iter().map(|row| row()).collect());
+    let rows = [ROWS, TRANSFORM_ROWS, avx2_rows()].concat();
+    let visits = (0..VISITS).map(|_| rows.iter().map(|row| row()).collect());
     let better = |one: Vec<Row>, other: Vec<Row>| one.into_iter().zip(other).map(|(a, b)| a.better(b)).collect();
     let rows = visits.reduce(better).unwrap();
     println!("{:<54}{:>12}{:>12}{:>9}{:>9}", "nanoseconds an element", "Rust", "library", "ratio", "limit");
@@ -30,5 +36,6 @@ fn print(row: &Row) {
         (true, false) => "  above the limit",
         (true, true) => "",
     };
-    println!("{what:<54}{rust:>12.3}{library:>12.3}{:>9.3}{limit:>9.2}{remark}", row.ratio());
+    let limit = if limit.is_finite() { format!("{limit:.2}") } else { "none".to_string() };
+    println!("{what:<54}{rust:>12.3}{library:>12.3}{:>9.3}{limit:>9}{remark}", row.ratio());
 }

@@ -10,7 +10,7 @@ pub struct Row {
     /// Nanoseconds an element, as in `library`.
     pub rust: f64,
     pub library: f64,
-    /// How many times as long as the Rust the library may take.
+    /// How many times as long as the Rust the library may take; infinite where the row only informs.
     pub limit: f64,
     /// Whether both sides gave the same answer.
     pub equal: bool,

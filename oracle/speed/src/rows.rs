@@ -180,7 +180,7 @@ fn permutation(what: &'static str, n: usize, rust_permute: fn(&mut [u32]), call:
 }
 
 /// Words from 1 to P - 1.
-fn drawn(name: &str, count: usize) -> Vec<u32> {
+pub fn drawn(name: &str, count: usize) -> Vec<u32> {
     let mut random = Random::new(1, name);
     (0..count).map(|_| 1 + random.below(u64::from(P) - 1) as u32).collect()
 }

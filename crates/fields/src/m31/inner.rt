@@ -1,6 +1,6 @@
 // M31 on words already known to be below P: what the layers above compute with. These are no public calls.
 ghost use mathlib.Core.Path.{_≡_};
-ghost use Prim.Native.Nat.{_+_, _*_, _%_, _^_, _<_};
+ghost use Prim.Native.Nat.{_+_, _*_, _/_, _%_, _^_, _≤_, _<_};
 ghost use lib.Dec.{ltb};
 ghost use Rattle.algebra.specs.M31.{P};
 ghost use Rattle.fields.specs.Words.{addP, subP, negP, mulP, powP};
@@ -10,6 +10,8 @@ use crate::m31::P;
 const TWO_POW_31: u32 = 2147483648;
 
 const TWO_POW_31_U64: u64 = 2147483648;
+
+const TWO_POW_32: u64 = 4294967296;
 
 const TWO_P: u64 = 4294967294;
 
@@ -29,16 +31,17 @@ pub fn reduce(val: u64) -> u32
     partial_reduce(low + high)
 }
 
+// b may be P, which stands for 0.
 pub fn add(a: u32, b: u32) -> u32
-    requires { ⌜ (a < P) × (b < P) ⌝ }
+    requires { ⌜ (a < P) × (b ≤ P) ⌝ }
     ensures { λ r. ⌜ r ≡ addP a b ⌝ }
 {
     partial_reduce(a + b)
 }
 
-// A difference below 0 wraps to 2^32 more, which is 2 modulo P.
+// A difference below 0 wraps to 2^32 more, which is 2 modulo P. b may be P, which stands for 0.
 pub fn sub(a: u32, b: u32) -> u32
-    requires { ⌜ (a < P) × (b < P) ⌝ }
+    requires { ⌜ (a < P) × (b ≤ P) ⌝ }
     ensures { λ r. ⌜ r ≡ subP a b ⌝ }
 {
     let difference = std::num::wrapping_sub_u32(a, b);
@@ -66,6 +69,34 @@ pub fn product(a: u32, b: u32) -> u64
     ensures { λ r. ⌜ (r ≡ a * b) × (r < P * P) ⌝ }
 {
     (a as u64) * (b as u64)
+}
+
+// The bits from 31 on of the product with w, added to those below. Where w stays the same through a loop, 2w does too, and the
+// product with 2w divides at 32 bits, which takes fewer steps there.
+fn halves_by(a: u32, w: u32) -> u32
+    requires { ⌜ (a < P) × (w < P) ⌝ }
+    ensures { λ r. ⌜ (r ≡ (a * w) % 2147483648 + (a * w) / 2147483648) × (r < 2 * P) ⌝ }
+{
+    let twice = std::num::wrapping_add_u32(w, w);
+    let wide = (a as u64) * (twice as u64);
+    ((wide % TWO_POW_32) as u32) / 2 + ((wide / TWO_POW_32) as u32)
+}
+
+// The product with a factor w that stays the same through a loop.
+pub fn mul_by(a: u32, w: u32) -> u32
+    requires { ⌜ (a < P) × (w < P) ⌝ }
+    ensures { λ r. ⌜ r ≡ mulP a w ⌝ }
+{
+    partial_reduce(halves_by(a, w))
+}
+
+// The same for a sum and a difference, which reduce it: P may stand for 0.
+pub fn mul_partly(a: u32, w: u32) -> u32
+    requires { ⌜ (a < P) × (w < P) ⌝ }
+    ensures { λ r. ⌜ (r % P ≡ mulP a w) × (r ≤ P) ⌝ }
+{
+    let halves = halves_by(a, w);
+    halves % TWO_POW_31 + halves / TWO_POW_31
 }
 
 // Any number: the bits from 31 on are added to those below, twice.

@@ -1,4 +1,3 @@
-use mathlib.Core.Path.{refl}
 use native.Mathlib.Omega.{arith}
 use borrow.Author.Needs.{needs}
 use Rattle.transform.proofs.Checks.{below-one, above-thirty, other-length, short-scratch, bad-word, no-bad-word}

@@ -1,3 +1,4 @@
+use native.Mathlib.Nat as N
 use borrow.Author.Needs.{needs}
 use Rattle.column.specs.Butterflies.{inverseSum, inverseDifference}
 use Rattle.transform.proofs.Fours.{four-interpolated}
@@ -19,12 +20,12 @@ slice-read-d c = search needs
 add-requires : tie.Need-add-requires
 add-requires c κs =
     let words = c .before .before .before .before .before .pre .3 in
-    (words 0, words 1)
+    (words 0, N.le-of-lt (words 1))
 
 sub-requires : tie.Need-sub-requires
 sub-requires c κs =
     let words = c .before .before .before .before .before .before .pre .3 in
-    (words 0, words 1)
+    (words 0, N.le-of-lt (words 1))
 
 mul-requires : tie.Need-mul-requires
 mul-requires c κs = search needs
@@ -32,12 +33,12 @@ mul-requires c κs = search needs
 add-requires-2 : tie.Need-add-requires-2
 add-requires-2 c κs =
     let words = c .before .before .before .before .before .before .before .before .pre .3 in
-    (words 2, words 3)
+    (words 2, N.le-of-lt (words 3))
 
 sub-requires-2 : tie.Need-sub-requires-2
 sub-requires-2 c κs =
     let words = c .before .before .before .before .before .before .before .before .before .pre .3 in
-    (words 3, words 2)
+    (words 3, N.le-of-lt (words 2))
 
 mul-requires-2 : tie.Need-mul-requires-2
 mul-requires-2 c κs = search needs

@@ -2,11 +2,11 @@ use Prim.Native.Nat.{ℕ, _≤_, _^_}
 use mathlib.Core.Path.{_≡_, refl, sym, _∙_, subst}
 use mathlib.Core.List.{List}
 use native.Mathlib.Omega.{arith}
-use lib.ListN.{length, take}
+use lib.ListN.{length}
 use borrow.Author.Needs.{needs}
 use Rattle.transform.specs.Tree.{Invertible, Inverted, Unscaled}
 use Rattle.transform.specs.TreeLaws.{tree-invertible}
-use Rattle.transform.proofs.Whole.{half, filled, column-of, tree-part, tree-size, tree-taken, taken-length, filled-length, filled-rest, root-block, column-interpolated}
+use Rattle.transform.proofs.Whole.{filled, column-of, tree-part, tree-size, tree-taken, taken-length, filled-length, filled-rest, root-block, column-interpolated}
 use Rattle.transform.proofs.interpolation.interpolate_unscaled.Statement.{statement}
 use Rattle.transform.proofs.interpolation.interpolate_unscaled.Tie as tie
 

@@ -1,5 +1,6 @@
 use Prim.Native.Nat.{ℕ, _+_, _-_, _<_, _≤_}
 use mathlib.Core.Path.{_≡_, refl, _∙_, ap}
+use native.Mathlib.Nat as N
 use native.Mathlib.Omega.{arith}
 use lib.ListN.{length, getD, length-set}
 use borrow.Author.Needs.{needs}
@@ -52,7 +53,7 @@ slice-read-v : tie.Need-slice-read-v Inv-loop μ-loop
 slice-read-v c = omega arith
 
 add-requires : tie.Need-add-requires Inv-loop μ-loop
-add-requires c κs = (lower-word (c .before .before), upper-word (c .before .before))
+add-requires c κs = (lower-word (c .before .before), N.le-of-lt (upper-word (c .before .before)))
 
 mul-block : tie.Need-mul-block Inv-loop μ-loop
 mul-block c = search needs
@@ -61,10 +62,10 @@ slice-write-block : tie.Need-slice-write-block Inv-loop μ-loop
 slice-write-block c = omega arith
 
 sub-requires : tie.Need-sub-requires Inv-loop μ-loop
-sub-requires c κs = (lower-word (c .before .before .before), upper-word (c .before .before .before))
+sub-requires c κs = (lower-word (c .before .before .before), N.le-of-lt (upper-word (c .before .before .before)))
 
-mul-requires : tie.Need-mul-requires Inv-loop μ-loop
-mul-requires c κs = (omega (arith, c .sub .ensures), search needs)
+mul-by-requires : tie.Need-mul-by-requires Inv-loop μ-loop
+mul-by-requires c κs = (omega (arith, c .sub .ensures), search needs)
 
 mul-block-2 : tie.Need-mul-block-2 Inv-loop μ-loop
 mul-block-2 c = search needs
@@ -85,8 +86,8 @@ loop-again c =
     let s = d .before .before .before in (
       omega arith,
       halfway-next (inverseSum words31) (inverseDifference words31 (s .args .t)) (s .args .block .now) (s .args .half) (s .pre .0)
-          (d .before .loop .block) (d .before .loop .q) (d .loop-test .taken) (d .before .loop .inv .1) (c .before .before .add .result) (c .mul .result)
-          (c .before .before .add .ensures) (c .mul .ensures ∙ ap (λ (x : ℕ). mulP x (s .args .t)) (c .before .sub .ensures)),
+          (d .before .loop .block) (d .before .loop .q) (d .loop-test .taken) (d .before .loop .inv .1) (c .before .before .add .result) (c .mul-by .result)
+          (c .before .before .add .ensures) (c .mul-by .ensures ∙ ap (λ (x : ℕ). mulP x (s .args .t)) (c .before .sub .ensures)),
       simp (length-set) (d .before .loop .inv .2),
     )
 
@@ -117,7 +118,7 @@ inverse-butterflies-spec =
     mul-block
     slice-write-block
     sub-requires
-    mul-requires
+    mul-by-requires
     mul-block-2
     slice-write-block-2
     add-q

@@ -1,0 +1,117 @@
+-- The steps that double the points of a level: with bit s, those found so far lie 2^(30 - s) further.
+use Prim.Native.Nat.{ℕ, suc, _+_, _-_, _*_, _/_, _^_, _≤_, _<_}
+use mathlib.Core.Path.{_≡_, sym, _∙_, ap, subst}
+use mathlib.Core.List.{List}
+use native.Mathlib.Nat as N
+use native.Mathlib.Decide.{decLt}
+use native.Mathlib.Omega.{arith}
+use lib.ListN.{length, getD}
+use lib.Pow as W
+use Rattle.algebra.specs.M31.{P}
+use Rattle.algebra.specs.Circle.{plus}
+use Rattle.fields.specs.Words.{words31}
+use Rattle.fields.specs.Inverse.{m31-representation}
+use Rattle.circle.specs.Index.{indexPoint}
+use Rattle.circle.specs.IndexPoints.{index-double}
+use Rattle.transform.specs.Tree.{pointAt, Points, Extended, Stepped}
+use Rattle.transform.specs.Twiddles.{even-or-odd}
+use Rattle.transform.proofs.Pairs.{written, written-first, written-second}
+use Rattle.transform.proofs.Filling.{first-point, points-next}
+
+-- twice a step is the step of the bit before
+pub step-doubled : (s : ℕ) (step twice : ℕ × ℕ) → 1 ≤ s → s ≤ 30 → twice ≡ plus words31 step step → step ≡ indexPoint (2 ^ (30 - s)) → twice ≡ indexPoint (2 ^ (30 - (s - 1)))
+step-doubled s step twice lo hi e f =
+    e ∙ ap (λ (p : ℕ × ℕ). plus words31 p p) f ∙ index-double (2 ^ (30 - s)) (2 ^ (30 - (s - 1))) 0 double
+  where
+    double : 2 * 2 ^ (30 - s) ≡ 2 ^ (30 - (s - 1)) + 0 * 2 ^ 31
+    double =
+        let bits : 30 - (s - 1) ≡ suc (30 - s) = omega arith in
+        omega (arith, ap (λ (t : ℕ). 2 ^ t) bits ∙ N.pow-succ' 2 (30 - s))
+
+-- words two by two
+by-points : (C : ℕ → Type 0) (count : ℕ) → ((c : ℕ) → c < count → C (2 * c) × C (2 * c + 1)) → (j : ℕ) → j < 2 * count → C j
+by-points C count each j h =
+    even-or-odd j
+    (λ e. let at : j ≡ 2 * (j / 2) = omega arith in subst C (sym at) (each (j / 2) (omega arith) .0))
+    (λ e. let at : j ≡ 2 * (j / 2) + 1 = omega arith in subst C (sym at) (each (j / 2) (omega arith) .1))
+
+pub first-step : (s : ℕ) (step : ℕ × ℕ) (level : List ℕ) → 1 ≤ s → s < 2 → getD level 0 0 < P → getD level 1 0 < P → Stepped s step level level
+first-step s step level lo hi x y = record {
+  below = λ j h. by-points (λ j. getD level j 0 < P) 1 (λ c l. only c (omega arith)) j (omega (arith, two));
+  points = λ n a b e p. subst (λ (k : ℕ). Points n k level) (sym none) p;
+}
+  where
+    one : s ≡ 1
+    one = omega arith
+
+    two : 2 ^ s ≡ 2
+    two = ap (λ (t : ℕ). 2 ^ t) one
+
+    none : 2 ^ (s - 1) ≡ 1
+    none = ap (λ (t : ℕ). 2 ^ (t - 1)) one
+
+    only : (c : ℕ) → c ≡ 0 → (getD level (2 * c) 0 < P) × (getD level (2 * c + 1) 0 < P)
+    only c e = rw e (x, y)
+
+module _ (s count : ℕ) (step twice : ℕ × ℕ) (level middle exit : List ℕ) (lo : 2 ≤ s) (hi : s ≤ 28) (two : count ≡ 2 ^ (s - 2)) where
+  pub half-points : 2 * count ≡ 2 ^ (s - 1)
+  half-points =
+      let bits : s - 1 ≡ suc (s - 2) = omega arith in
+      omega (arith, ap (λ (t : ℕ). 2 ^ t) bits ∙ N.pow-succ' 2 (s - 2))
+
+  pub all-points : 4 * count ≡ 2 ^ s
+  all-points =
+      let bits : s ≡ suc (s - 1) = omega arith in
+      omega (arith, half-points, ap (λ (t : ℕ). 2 ^ t) bits ∙ N.pow-succ' 2 (s - 1))
+
+  pub next-step : twice ≡ plus words31 step step → Stepped (s - 1) twice level middle → Extended count step middle exit → Stepped s step level exit
+  next-step e t x = record {
+    below = λ j h. by-points (λ j. getD exit j 0 < P) (2 * count) (λ c l. elim (decLt c count) [ yes b ↦ kept c b | no g ↦ added c (c - count) (omega arith) (omega arith) ]) j (omega (arith, all-points));
+    points = λ n a b f p.
+        let before : Points n (2 ^ (s - 2)) middle =
+        subst (λ (k : ℕ). Points n (2 ^ k) middle) less (t .points n (omega arith) b (step-doubled s step twice (omega arith) (omega arith) e f) p) in
+        subst (λ (k : ℕ). Points n (2 ^ k) exit) more (points-next s count lo (omega arith) b two before step exit f x);
+  }
+    where
+      less : s - 1 - 1 ≡ s - 2
+      less = omega arith
+
+      more : s + 1 - 2 ≡ s - 1
+      more = omega arith
+
+      kept : (c : ℕ) → c < count → (getD exit (2 * c) 0 < P) × (getD exit (2 * c + 1) 0 < P)
+      kept c b =
+          let point : pointAt exit c ≡ pointAt middle c = x .kept c b in
+          (rw (ap (λ (p : ℕ × ℕ). p .0) point) (t .below (2 * c) (omega (arith, half-points))), rw (ap (λ (p : ℕ × ℕ). p .1) point) (t .below (2 * c + 1) (omega (arith, half-points))))
+
+      added : (c d : ℕ) → c ≡ count + d → d < count → (getD exit (2 * c) 0 < P) × (getD exit (2 * c + 1) 0 < P)
+      added c d q l =
+          let point : pointAt exit c ≡ plus words31 (pointAt middle d) step = ap (pointAt exit) q ∙ x .added d l in
+          (rw (ap (λ (p : ℕ × ℕ). p .0) point) (m31-representation .add-reduced _ _), rw (ap (λ (p : ℕ × ℕ). p .1) point) (m31-representation .add-reduced _ _))
+
+-- ---- the whole level, from its first point (x, y) of index 2^(30 - n)
+
+module _ (n x y : ℕ) (level : List ℕ) (lo : 3 ≤ n) (hi : n ≤ 30) (size : 4 * length level ≡ 2 ^ n) where
+  pub level-room : 2 ^ (n - 2) ≡ length level
+  level-room =
+      let bits : n ≡ 2 + (n - 2) = omega arith in
+      omega (arith, ap (λ (t : ℕ). 2 ^ t) bits ∙ W.pow-add 2 2 (n - 2))
+
+  pub two-words : 2 ≤ length level
+  two-words = omega (arith, level-room, W.pow-mono {i = 1} {j = n - 2} (omega arith))
+
+  pub first-x : getD (written level 0 x y) 0 0 ≡ x
+  first-x = written-first level 0 x y (omega (arith, two-words))
+
+  pub first-y : getD (written level 0 x y) 1 0 ≡ y
+  first-y = written-second level 0 x y (omega (arith, two-words))
+
+  -- four times the first point is the step of the last bit
+  pub level-filled : (twice step : ℕ × ℕ) (exit : List ℕ) → (x, y) ≡ indexPoint (2 ^ (30 - n)) → twice ≡ plus words31 (x, y) (x, y) → step ≡ plus words31 twice twice
+      → Stepped (n - 2) step (written level 0 x y) exit → Points n (2 ^ (n - 3)) exit
+  level-filled twice step exit e f g t =
+      let less : n - 1 - 1 ≡ n - 2 = omega arith in
+      let fewer : n - 2 - 1 ≡ n - 3 = omega arith in
+      let second : twice ≡ indexPoint (2 ^ (30 - (n - 1))) = step-doubled n (x, y) twice (omega arith) hi f e in
+      let fourth : step ≡ indexPoint (2 ^ (30 - (n - 2))) = step-doubled (n - 1) twice step (omega arith) (omega arith) g second ∙ ap (λ (t : ℕ). indexPoint (2 ^ (30 - t))) less in
+      subst (λ (k : ℕ). Points n (2 ^ k) exit) fewer (t .points n (omega arith) hi fourth (first-point n x y level (omega (arith, two-words)) e))
