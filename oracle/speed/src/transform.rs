@@ -1,7 +1,7 @@
 //! The library's transform in Rust: the tree of twiddles in scratch, butterflies layer by layer in blocks that fit the
 //! cache and half by half in longer ones, the two layers of the smallest distances in one pass, eight words at a time.
 
-use crate::twiddles::{add, fill, invert, mul, sub, POWERS};
+use crate::twiddles::{add, fill, invert, mul, mul_twice, reduced, sub, POWERS};
 use stwo::core::fields::m31::P;
 
 /// A transform of 2^log_size words, with as many words of scratch; whether it took the column.
@@ -27,16 +27,31 @@ fn inverse_butterfly(u: u32, v: u32, w: u32) -> (u32, u32) {
     (add(u, v), mul(sub(u, v), w))
 }
 
+/// A butterfly of a loop with one twiddle, which it takes doubled. The product may be P: the sum and the difference take
+/// that for 0.
+#[inline(always)]
+fn loop_butterfly(u: u32, v: u32, twice: u32) -> (u32, u32) {
+    let sum = mul_twice(v, twice);
+    let product = (sum & P) + (sum >> 31);
+    (add(u, product), sub(u, product))
+}
+
+#[inline(always)]
+fn inverse_loop_butterfly(u: u32, v: u32, twice: u32) -> (u32, u32) {
+    (add(u, v), reduced(mul_twice(sub(u, v), twice)))
+}
+
 trait Butterfly: Fn(u32, u32, u32) -> (u32, u32) + Copy {}
 impl<T: Fn(u32, u32, u32) -> (u32, u32) + Copy> Butterfly for T {}
 
 /// A butterfly on each pair of words half a block apart.
 #[inline(always)]
 fn halves(block: &mut [u32], half: usize, w: u32, butterfly: impl Butterfly) {
+    let twice = 2 * w;
     let (low, high) = block.split_at_mut(half);
     // Zipped the other way round, interpolation of 2^24 words and more takes a fifth longer.
     for (v, u) in high.iter_mut().zip(low) {
-        (*u, *v) = butterfly(*u, *v, w);
+        (*u, *v) = butterfly(*u, *v, twice);
     }
 }
 
@@ -87,7 +102,7 @@ fn layer(column: &mut [u32], nodes: &[u32], k: u32, butterfly: impl Butterfly) {
 #[inline(always)]
 fn layers(column: &mut [u32], tree: &[u32], i: usize, k: u32) {
     for depth in 0..k - 2 {
-        layer(column, &tree[i << depth..], k - depth, butterfly);
+        layer(column, &tree[i << depth..], k - depth, loop_butterfly);
     }
     eights(column, &tree[i << (k - 2)..], eight);
 }
@@ -105,7 +120,7 @@ fn scale(column: &mut [u32], shift: u32) {
 fn inverse_layers(column: &mut [u32], tree: &[u32], i: usize, k: u32, shift: u32) {
     eights(column, &tree[i << (k - 2)..], inverse_eight);
     for depth in (0..k - 2).rev() {
-        layer(column, &tree[i << depth..], k - depth, inverse_butterfly);
+        layer(column, &tree[i << depth..], k - depth, inverse_loop_butterfly);
     }
     scale(column, shift);
 }
@@ -150,7 +165,7 @@ macro_rules! transforms {
                     return layers(column, tree, i, k);
                 }
                 let half = column.len() / 2;
-                halves(column, half, tree[i], butterfly);
+                halves(column, half, tree[i], loop_butterfly);
                 let (low, high) = column.split_at_mut(half);
                 evaluate_block(low, tree, 2 * i, k - 1);
                 evaluate_block(high, tree, 2 * i + 1, k - 1);
@@ -165,7 +180,7 @@ macro_rules! transforms {
                 let (low, high) = column.split_at_mut(half);
                 interpolate_block(low, tree, 2 * i, k - 1, shift);
                 interpolate_block(high, tree, 2 * i + 1, k - 1, shift);
-                halves(column, half, tree[i], inverse_butterfly);
+                halves(column, half, tree[i], inverse_loop_butterfly);
             }
 
             $(#[target_feature(enable = $feature)])?

@@ -3,7 +3,7 @@
 use stwo::core::fields::m31::P;
 
 #[inline(always)]
-const fn reduced(sum: u32) -> u32 {
+pub const fn reduced(sum: u32) -> u32 {
     sum.wrapping_add(sum.wrapping_add(1) >> 31) & P
 }
 
@@ -22,6 +22,13 @@ pub const fn sub(a: u32, b: u32) -> u32 {
 pub const fn mul(a: u32, b: u32) -> u32 {
     let product = a as u64 * b as u64;
     reduced((product as u32 & P) + (product >> 31) as u32)
+}
+
+/// A product with half of `twice`, whose bits from 31 on are the upper half of the 64: both parts added, not reduced.
+#[inline(always)]
+pub const fn mul_twice(a: u32, twice: u32) -> u32 {
+    let product = a as u64 * twice as u64;
+    (product as u32 >> 1) + (product >> 32) as u32
 }
 
 type Point = (u32, u32);
