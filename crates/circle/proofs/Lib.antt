@@ -3,3 +3,5 @@ pub mod Scalars
 pub mod Digits
 pub mod Wrapping
 pub mod Order
+pub mod Cases
+pub mod Powers

@@ -42,30 +42,30 @@ module _ (O : Ops) where
   zip-second s (x ∷ a) [] e = absurd (omega arith)
   zip-second s (x ∷ a) (y ∷ b) e = ap (λ (r : List El). y ⊗ s ∷ r) (zip-second s a b (omega arith))
 
-  scaled-zip : (s : El) (f : El → El → El) (a b : List El) → scaled O s (zipWith f a b) ≡ zipWith (λ (x y : El). f x y ⊗ s) a b
+  pub scaled-zip : (s : El) (f : El → El → El) (a b : List El) → scaled O s (zipWith f a b) ≡ zipWith (λ (x y : El). f x y ⊗ s) a b
   unfolding zipWith scaled
   scaled-zip s f [] b = refl
   scaled-zip s f (x ∷ a) [] = refl
   scaled-zip s f (x ∷ a) (y ∷ b) = ap (λ (r : List El). f x y ⊗ s ∷ r) (scaled-zip s f a b)
 
-  zip-scaled : (s : El) (f : El → El → El) (a b : List El) → zipWith f (scaled O s a) (scaled O s b) ≡ zipWith (λ (x y : El). f (x ⊗ s) (y ⊗ s)) a b
+  pub zip-scaled : (s : El) (f : El → El → El) (a b : List El) → zipWith f (scaled O s a) (scaled O s b) ≡ zipWith (λ (x y : El). f (x ⊗ s) (y ⊗ s)) a b
   unfolding zipWith scaled
   zip-scaled s f [] b = refl
   zip-scaled s f (x ∷ a) [] = refl
   zip-scaled s f (x ∷ a) (y ∷ b) = ap (λ (r : List El). f (x ⊗ s) (y ⊗ s) ∷ r) (zip-scaled s f a b)
 
-  scaled-append : (s : El) (a b : List El) → scaled O s (a ++ b) ≡ scaled O s a ++ scaled O s b
+  pub scaled-append : (s : El) (a b : List El) → scaled O s (a ++ b) ≡ scaled O s a ++ scaled O s b
   unfolding scaled
   scaled-append s [] b = refl
   scaled-append s (x ∷ a) b = ap (λ (r : List El). x ⊗ s ∷ r) (scaled-append s a b)
 
-  scaled-take : (s : El) (n : ℕ) (a : List El) → take n (scaled O s a) ≡ scaled O s (take n a)
+  pub scaled-take : (s : El) (n : ℕ) (a : List El) → take n (scaled O s a) ≡ scaled O s (take n a)
   unfolding scaled
   scaled-take s zero a = refl
   scaled-take s (suc n) [] = refl
   scaled-take s (suc n) (x ∷ a) = ap (λ (r : List El). x ⊗ s ∷ r) (scaled-take s n a)
 
-  scaled-drop : (s : El) (n : ℕ) (a : List El) → drop n (scaled O s a) ≡ scaled O s (drop n a)
+  pub scaled-drop : (s : El) (n : ℕ) (a : List El) → drop n (scaled O s a) ≡ scaled O s (drop n a)
   unfolding scaled
   scaled-drop s zero a = refl
   scaled-drop s (suc n) [] = refl

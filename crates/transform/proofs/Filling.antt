@@ -1,5 +1,5 @@
 -- The steps that fill the tree: points by additions, then the levels above by doubling.
-use Prim.Native.Nat.{ℕ, suc, _+_, _-_, _*_, _/_, _^_, _≤_, _<_}
+use Prim.Native.Nat.{ℕ, suc, _+_, _-_, _*_, _/_, _%_, _^_, _≤_, _<_}
 use mathlib.Core.Path.{_≡_, refl, sym, _∙_, ap, ap₂}
 use mathlib.Core.List.{List, _++_}
 use native.Mathlib.Nat as N
@@ -11,14 +11,25 @@ use lib.Pow as W
 use borrow.Rule.Slice.PartMut.{midOf, putMid, mid-len, same-len-mid}
 use Rattle.algebra.specs.M31.{P}
 use Rattle.algebra.specs.Circle.{plus, doubleX}
-use Rattle.fields.specs.Words.{words31}
+use Rattle.fields.specs.Words.{addP, subP, mulP, words31}
+use Rattle.fields.specs.Inverse.{m31-representation}
 use Rattle.circle.specs.Index.{indexPoint}
 use Rattle.circle.specs.IndexPoints.{index-below}
 use Rattle.domains.specs.BitReversed.{halfIndex, halfPoint, half-further, half-index-start, half-turned}
 use Rattle.domains.specs.Doubled.{half-double-x}
 use Rattle.transform.specs.Tree.{LinesFrom, LineTree, pointAt, Points, Extended, Doubled}
 use Rattle.transform.specs.Twiddles.{even-or-odd}
+use Rattle.transform.proofs.WordLaws.{add-partly, sub-partly}
 use Rattle.transform.proofs.Pairs.{written, written-length, written-first, written-second, written-below}
+
+-- ---- a sum of points by their words, where two of the products are partly reduced
+
+pub step-added : (x y a b xx yy xy yx p q : ℕ) → xx ≡ mulP x a → yy % P ≡ mulP y b → xy ≡ mulP x b → yx % P ≡ mulP y a → p ≡ subP xx yy → q ≡ addP xy yx
+    → ((p, q) ≡ plus words31 (x, y) (a, b)) × ((p < P) × (q < P))
+step-added x y a b xx yy xy yx p q e f g h d s =
+    let first : p ≡ subP (mulP x a) (mulP y b) = d ∙ sub-partly xx yy (mulP y b) f ∙ ap (λ (t : ℕ). subP t (mulP y b)) e in
+    let second : q ≡ addP (mulP x b) (mulP y a) = s ∙ add-partly xy yx (mulP y a) h ∙ ap (λ (t : ℕ). addP t (mulP y a)) g in
+    ((λ i. (first i, second i)), (rw first (m31-representation .add-reduced _ _), rw second (m31-representation .add-reduced _ _)))
 
 -- ---- points count, .., count + c - 1 of a level are added
 

@@ -8,12 +8,13 @@ use lib.ListN.{length, getD, take, drop, length-append, length-drop, drop-of-len
 use lib.Pow as W
 use lib.Seq.{take-at, drop-at, take-all, length-take-le}
 use Rattle.fields.specs.Words.{words31}
-use Rattle.column.specs.Butterflies.{butterflies, evaluateBlock, inverseButterflies, interpolateBlock}
-use Rattle.column.specs.Inverse.{interpolate-length}
+use Rattle.column.specs.Butterflies.{butterflies, evaluateBlock, inverseButterflies, interpolateBlock, scaled}
+use Rattle.column.specs.Inverse.{interpolate-length, scaled-length, scaled-append}
 use Rattle.column.specs.Blocks.{butterflies-length, twoBlocks, layer-block, inverse-block}
 use Rattle.transform.specs.Tree.{Words, nodeTwiddle, Block}
-use Rattle.transform.proofs.WordLaws.{words-append, words-take, words-drop, words-butterflies, words-interpolate}
+use Rattle.transform.proofs.WordLaws.{words-append, words-take, words-drop, words-butterflies, words-scaled}
 use Rattle.transform.proofs.Layers.{line-node}
+use Rattle.transform.proofs.Scaling.{butterflies-multiple}
 
 -- ---- the two halves of a list, rewritten one after the other
 
@@ -126,35 +127,38 @@ module _ (c tree : List ℕ) (i k : ℕ) (b : Block c tree i k) (big : 14 < k) (
         rw (upper-part c half halves-size p same)
         (half-block (drop half c) (2 * i + 1) (omega arith) (upper-length c half halves-size) (words-drop half c (b .words)))
 
-    module _ (q : List ℕ) (ep : p ≡ interpolateBlock words31 (k - 1) (nodeTwiddle tree) (2 * i) (take half c))
-        (eq : q ≡ interpolateBlock words31 (k - 1) (nodeTwiddle tree) (2 * i + 1) (take (length (middle c half halves-size p same) - half) (drop half (middle c half halves-size p same)))) where
+    module _ (t : ℕ) (q : List ℕ) (ep : p ≡ scaled words31 t (interpolateBlock words31 (k - 1) (nodeTwiddle tree) (2 * i) (take half c)))
+        (eq : q ≡ scaled words31 t (interpolateBlock words31 (k - 1) (nodeTwiddle tree) (2 * i + 1) (take (length (middle c half halves-size p same) - half) (drop half (middle c half halves-size p same))))) where
       abbrev joined : List ℕ
       joined = take half (middle c half halves-size p same) ++ (q ++ drop (length (middle c half halves-size p same) - half) (drop half (middle c half halves-size p same)))
 
-      upper-is : q ≡ interpolateBlock words31 (k - 1) (nodeTwiddle tree) (2 * i + 1) (drop half c)
-      upper-is = eq ∙ ap (interpolateBlock words31 (k - 1) (nodeTwiddle tree) (2 * i + 1)) (upper-part c half halves-size p same)
+      abbrev blocks : List ℕ
+      blocks = twoBlocks half (interpolateBlock words31 (k - 1) (nodeTwiddle tree)) i c
 
-      joined-is : joined ≡ twoBlocks half (interpolateBlock words31 (k - 1) (nodeTwiddle tree)) i c
-      joined-is = both-halves c half halves-size p same q ∙ ap₂ _++_ ep upper-is
+      upper-is : q ≡ scaled words31 t (interpolateBlock words31 (k - 1) (nodeTwiddle tree) (2 * i + 1) (drop half c))
+      upper-is = eq ∙ ap (λ (d : List ℕ). scaled words31 t (interpolateBlock words31 (k - 1) (nodeTwiddle tree) (2 * i + 1) d)) (upper-part c half halves-size p same)
+
+      joined-is : joined ≡ scaled words31 t blocks
+      joined-is =
+          both-halves c half halves-size p same q ∙ ap₂ _++_ ep upper-is
+          ∙ sym (scaled-append words31 t (interpolateBlock words31 (k - 1) (nodeTwiddle tree) (2 * i) (take half c)) (interpolateBlock words31 (k - 1) (nodeTwiddle tree) (2 * i + 1) (drop half c)))
 
       pub joined-length : length joined ≡ half + half
       joined-length =
-          ap length joined-is
+          ap length joined-is ∙ scaled-length words31 t blocks
           ∙ length-append (interpolateBlock words31 (k - 1) (nodeTwiddle tree) (2 * i) (take half c)) (interpolateBlock words31 (k - 1) (nodeTwiddle tree) (2 * i + 1) (drop half c))
           ∙ ap₂ _+_
           (interpolate-length words31 (k - 1) (nodeTwiddle tree) (2 * i) (take half c) (lower-length c half halves-size ∙ half-power) ∙ sym half-power)
           (interpolate-length words31 (k - 1) (nodeTwiddle tree) (2 * i + 1) (drop half c) (upper-length c half halves-size ∙ half-power) ∙ sym half-power)
 
       pub joined-words : Words joined
-      joined-words w =
-          rw joined-is
-          (words-append (interpolateBlock words31 (k - 1) (nodeTwiddle tree) (2 * i) (take half c)) (interpolateBlock words31 (k - 1) (nodeTwiddle tree) (2 * i + 1) (drop half c))
-          (words-interpolate (k - 1) (nodeTwiddle tree) (2 * i) (take half c) (words-take half c (b .words)))
-          (words-interpolate (k - 1) (nodeTwiddle tree) (2 * i + 1) (drop half c) (words-drop half c (b .words))) w)
+      joined-words w = rw joined-is (words-scaled t blocks w)
 
-      pub block-interpolated : (exit : List ℕ) → exit ≡ inverseButterflies words31 half (getD tree i 0) joined → exit ≡ interpolateBlock words31 k (nodeTwiddle tree) i c
+      pub block-interpolated : (exit : List ℕ) → exit ≡ inverseButterflies words31 half (getD tree i 0) joined → exit ≡ scaled words31 t (interpolateBlock words31 k (nodeTwiddle tree) i c)
       block-interpolated exit e =
           e ∙ ap (inverseButterflies words31 half (getD tree i 0)) joined-is
-          ∙ ap₂ (λ (h w : ℕ). inverseButterflies words31 h w (twoBlocks h (interpolateBlock words31 (k - 1) (nodeTwiddle tree)) i c)) half-power (line-node tree (k - 1) i (omega arith))
+          ∙ butterflies-multiple half (getD tree i 0) t blocks
+          ∙ ap (scaled words31 t)
+          (ap₂ (λ (h w : ℕ). inverseButterflies words31 h w (twoBlocks h (interpolateBlock words31 (k - 1) (nodeTwiddle tree)) i c)) half-power (line-node tree (k - 1) i (omega arith))
           ∙ inverse-block words31 (nodeTwiddle tree) (k - 1) i c (b .size ∙ power)
-          ∙ ap (λ (n : ℕ). interpolateBlock words31 n (nodeTwiddle tree) i c) (sym less)
+          ∙ ap (λ (n : ℕ). interpolateBlock words31 n (nodeTwiddle tree) i c) (sym less))

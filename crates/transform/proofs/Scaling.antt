@@ -1,18 +1,22 @@
 -- Multiples by a power of two modulo P, where 2^31 is 1.
 use Prim.Native.Nat.{ℕ, zero, suc, _+_, _-_, _*_, _/_, _%_, _^_, _≤_, _<_}
-use mathlib.Core.Path.{_≡_, refl, sym, _∙_, ap}
-use mathlib.Core.List.{List, [], _∷_}
+use mathlib.Core.Path.{_≡_, refl, sym, _∙_, ap, ap₂}
+use mathlib.Core.List.{List, [], _∷_, _++_, zipWith}
 use native.Mathlib.Nat as N
 use native.Mathlib.Decide.{decLt}
 use native.Mathlib.Numerals.{add-one}
 use native.Mathlib.Omega.{arith}
 use lib.Arith.{digits-mod}
-use lib.ListN.{length, getD, set}
+use lib.ListN.{length, getD, set, take, drop}
 use lib.Pow as W
-use Rattle.algebra.specs.M31.{P}
+use Rattle.algebra.specs.Polynomial.{_:+_, _:*_, :-_, v0, v1, v2, v3}
+use Rattle.algebra.specs.M31.{P, m31}
 use Rattle.fields.specs.Words.{mulP, words31}
-use Rattle.column.specs.Butterflies.{scaled}
-use Rattle.column.specs.Inverse.{scaled-length}
+use Rattle.fields.specs.Representation.{solveWords}
+use Rattle.fields.specs.Inverse.{m31-representation}
+use Rattle.column.specs.Butterflies.{onHalves, inverseSum, inverseDifference, inverseButterflies, scaled}
+use Rattle.column.specs.Lists.{zip-equal}
+use Rattle.column.specs.Inverse.{scaled-length, scaled-zip, zip-scaled, scaled-append, scaled-take, scaled-drop}
 use Rattle.transform.specs.Tree.{Words}
 use Rattle.transform.proofs.Halves.{over, over-length, over-at, over-next, over-all}
 
@@ -110,3 +114,29 @@ module _ (t : ℕ) (c : List ℕ) where
         is =
             let word : x ≡ getD (scaled words31 t c) i 0 = e ∙ ap (λ (y : ℕ). mulP y t) next ∙ sym (scaled-at t c i inside) in
             rw (v .is, word, add-one) (over-next c (scaled words31 t c) i (scaled-length words31 t c) inside)
+
+-- ---- the inverse butterflies of multiples
+
+sum-multiple : (t x y : ℕ) → inverseSum words31 (mulP x t) (mulP y t) ≡ mulP (inverseSum words31 x y) t
+unfolding inverseSum
+sum-multiple t x y =
+    solveWords words31 m31 m31-representation (t ∷ x ∷ y ∷ []) (v1 :* v0 :+ v2 :* v0) ((v1 :+ v2) :* v0) (m31-representation .add-reduced _ _) (m31-representation .mul-reduced _ _) tt
+
+difference-multiple : (w t x y : ℕ) → inverseDifference words31 w (mulP x t) (mulP y t) ≡ mulP (inverseDifference words31 w x y) t
+unfolding inverseDifference
+difference-multiple w t x y =
+    solveWords words31 m31 m31-representation (t ∷ x ∷ y ∷ w ∷ []) ((v1 :* v0 :+ :- (v2 :* v0)) :* v3) ((v1 :+ :- v2) :* v3 :* v0) (m31-representation .mul-reduced _ _) (m31-representation .mul-reduced _ _) tt
+
+halves-multiple : (f : ℕ → ℕ → ℕ) (t half : ℕ) (c : List ℕ) → ((x y : ℕ) → f (mulP x t) (mulP y t) ≡ mulP (f x y) t)
+    → onHalves f half (scaled words31 t c) ≡ scaled words31 t (onHalves f half c)
+halves-multiple f t half c h =
+    ap₂ (zipWith f) (scaled-take words31 t half c) (scaled-drop words31 t half c)
+    ∙ zip-scaled words31 t f (take half c) (drop half c)
+    ∙ zip-equal (λ (x y : ℕ). f (mulP x t) (mulP y t)) (λ (x y : ℕ). mulP (f x y) t) h (take half c) (drop half c)
+    ∙ sym (scaled-zip words31 t f (take half c) (drop half c))
+
+pub butterflies-multiple : (half w t : ℕ) (c : List ℕ) → inverseButterflies words31 half w (scaled words31 t c) ≡ scaled words31 t (inverseButterflies words31 half w c)
+unfolding inverseButterflies
+butterflies-multiple half w t c =
+    ap₂ _++_ (halves-multiple (inverseSum words31) t half c (sum-multiple t)) (halves-multiple (inverseDifference words31 w) t half c (difference-multiple w t))
+    ∙ sym (scaled-append words31 t (onHalves (inverseSum words31) half c) (onHalves (inverseDifference words31 w) half c))

@@ -108,5 +108,5 @@ module _ (x : ℕ) (is : x ≡ halfPoint 2 0 .0) where
       }
 
 -- the point of index 2^28
-pub two-start : (p : ℕ × ℕ) (k : ℕ) → p ≡ indexPoint k → k ≡ 2 ^ 28 → p .0 ≡ halfPoint 2 0 .0
-two-start p k e f = ap (λ (q : ℕ × ℕ). q .0) (e ∙ ap indexPoint (f ∙ sym (half-index-start 2)))
+pub two-start : (p : ℕ × ℕ) → p ≡ indexPoint (2 ^ 28) → p .0 ≡ halfPoint 2 0 .0
+two-start p e = ap (λ (q : ℕ × ℕ). q .0) (e ∙ ap indexPoint (sym (half-index-start 2)))

@@ -12,21 +12,10 @@ use Rattle.algebra.specs.Circle.{plus}
 use Rattle.fields.specs.Words.{words31}
 use Rattle.fields.specs.Inverse.{m31-representation}
 use Rattle.circle.specs.Index.{indexPoint}
-use Rattle.circle.specs.IndexPoints.{index-double}
 use Rattle.transform.specs.Tree.{pointAt, Points, Extended, Stepped}
 use Rattle.transform.specs.Twiddles.{even-or-odd}
 use Rattle.transform.proofs.Pairs.{written, written-first, written-second}
 use Rattle.transform.proofs.Filling.{first-point, points-next}
-
--- twice a step is the step of the bit before
-pub step-doubled : (s : ℕ) (step twice : ℕ × ℕ) → 1 ≤ s → s ≤ 30 → twice ≡ plus words31 step step → step ≡ indexPoint (2 ^ (30 - s)) → twice ≡ indexPoint (2 ^ (30 - (s - 1)))
-step-doubled s step twice lo hi e f =
-    e ∙ ap (λ (p : ℕ × ℕ). plus words31 p p) f ∙ index-double (2 ^ (30 - s)) (2 ^ (30 - (s - 1))) 0 double
-  where
-    double : 2 * 2 ^ (30 - s) ≡ 2 ^ (30 - (s - 1)) + 0 * 2 ^ 31
-    double =
-        let bits : 30 - (s - 1) ≡ suc (30 - s) = omega arith in
-        omega (arith, ap (λ (t : ℕ). 2 ^ t) bits ∙ N.pow-succ' 2 (30 - s))
 
 -- words two by two
 by-points : (C : ℕ → Type 0) (count : ℕ) → ((c : ℕ) → c < count → C (2 * c) × C (2 * c + 1)) → (j : ℕ) → j < 2 * count → C j
@@ -64,15 +53,18 @@ module _ (s count : ℕ) (step twice : ℕ × ℕ) (level middle exit : List ℕ
       let bits : s ≡ suc (s - 1) = omega arith in
       omega (arith, half-points, ap (λ (t : ℕ). 2 ^ t) bits ∙ N.pow-succ' 2 (s - 1))
 
-  pub next-step : twice ≡ plus words31 step step → Stepped (s - 1) twice level middle → Extended count step middle exit → Stepped s step level exit
+  pub next-step : twice ≡ indexPoint (2 ^ (31 - s)) → Stepped (s - 1) twice level middle → Extended count step middle exit → Stepped s step level exit
   next-step e t x = record {
     below = λ j h. by-points (λ j. getD exit j 0 < P) (2 * count) (λ c l. elim (decLt c count) [ yes b ↦ kept c b | no g ↦ added c (c - count) (omega arith) (omega arith) ]) j (omega (arith, all-points));
     points = λ n a b f p.
         let before : Points n (2 ^ (s - 2)) middle =
-        subst (λ (k : ℕ). Points n (2 ^ k) middle) less (t .points n (omega arith) b (step-doubled s step twice (omega arith) (omega arith) e f) p) in
+        subst (λ (k : ℕ). Points n (2 ^ k) middle) less (t .points n (omega arith) b (e ∙ ap (λ (k : ℕ). indexPoint (2 ^ k)) bit) p) in
         subst (λ (k : ℕ). Points n (2 ^ k) exit) more (points-next s count lo (omega arith) b two before step exit f x);
   }
     where
+      bit : 31 - s ≡ 30 - (s - 1)
+      bit = omega arith
+
       less : s - 1 - 1 ≡ s - 2
       less = omega arith
 
@@ -106,12 +98,10 @@ module _ (n x y : ℕ) (level : List ℕ) (lo : 3 ≤ n) (hi : n ≤ 30) (size :
   pub first-y : getD (written level 0 x y) 1 0 ≡ y
   first-y = written-second level 0 x y (omega (arith, two-words))
 
-  -- four times the first point is the step of the last bit
-  pub level-filled : (twice step : ℕ × ℕ) (exit : List ℕ) → (x, y) ≡ indexPoint (2 ^ (30 - n)) → twice ≡ plus words31 (x, y) (x, y) → step ≡ plus words31 twice twice
+  pub level-filled : (step : ℕ × ℕ) (exit : List ℕ) → (x, y) ≡ indexPoint (2 ^ (30 - n)) → step ≡ indexPoint (2 ^ (32 - n))
       → Stepped (n - 2) step (written level 0 x y) exit → Points n (2 ^ (n - 3)) exit
-  level-filled twice step exit e f g t =
-      let less : n - 1 - 1 ≡ n - 2 = omega arith in
+  level-filled step exit e f t =
+      let bit : 32 - n ≡ 30 - (n - 2) = omega arith in
       let fewer : n - 2 - 1 ≡ n - 3 = omega arith in
-      let second : twice ≡ indexPoint (2 ^ (30 - (n - 1))) = step-doubled n (x, y) twice (omega arith) hi f e in
-      let fourth : step ≡ indexPoint (2 ^ (30 - (n - 2))) = step-doubled (n - 1) twice step (omega arith) (omega arith) g second ∙ ap (λ (t : ℕ). indexPoint (2 ^ (30 - t))) less in
-      subst (λ (k : ℕ). Points n (2 ^ k) exit) fewer (t .points n (omega arith) hi fourth (first-point n x y level (omega (arith, two-words)) e))
+      subst (λ (k : ℕ). Points n (2 ^ k) exit) fewer
+      (t .points n (omega arith) hi (f ∙ ap (λ (k : ℕ). indexPoint (2 ^ k)) bit) (first-point n x y level (omega (arith, two-words)) e))

@@ -8,11 +8,11 @@ use lib.ListN.{length, take, drop, length-append, length-drop}
 use lib.Seq.{take-at, drop-append-add, drop-drop, length-take-le}
 use Rattle.fields.specs.Words.{words31}
 use Rattle.column.specs.Butterflies.{evaluateBlock, interpolateBlock, scaled}
-use Rattle.transform.specs.Transform.{valuesOf, Column}
-use Rattle.transform.specs.Tree.{Words, LineTree, nodeTwiddle, Inverted, Block, Unscaled}
+use Rattle.transform.specs.Transform.{valuesOf, Column, Coefficients}
+use Rattle.transform.specs.Tree.{Words, LineTree, nodeTwiddle, Inverted, Block}
 use Rattle.transform.specs.Elements.{column-words, tree-values, tree-coefficients}
 use Rattle.transform.specs.TreeLaws.{tree-holds, inverse-holds}
-use Rattle.transform.proofs.WordLaws.{words-evaluate, words-interpolate, words-scaled}
+use Rattle.transform.proofs.WordLaws.{words-evaluate, words-scaled}
 
 -- a column of a log size that is known
 pub column-of : (n m : ℕ) (c : List ℕ) → n ≡ m → Column n c → Column m c
@@ -75,11 +75,9 @@ module _ (n : ℕ) (column scratch : List ℕ) (lo : 3 ≤ n) (hi : n ≤ 30) (h
 
     -- with the inverses of a tree's twiddles: 2^n times the coefficients
     pub column-interpolated : (lines : List ℕ) → LineTree n lines → Inverted lines tree → (exit : List ℕ)
-        → exit ≡ interpolateBlock words31 n (nodeTwiddle (take half filled)) 1 column → Unscaled n column exit
+        → exit ≡ scaled words31 (2 ^ (31 - n)) (interpolateBlock words31 n (nodeTwiddle (take half filled)) 1 column) → Coefficients n exit column
     column-interpolated lines t inverted exit e =
-        let is : exit ≡ interpolateBlock words31 n (nodeTwiddle tree) 1 column = e ∙ ap (λ (l : List ℕ). interpolateBlock words31 n (nodeTwiddle l) 1 column) tree-taken in
-        record {
-          words = λ k. rw is (words-interpolate n (nodeTwiddle tree) 1 column (column-words n column h) k);
-          coefficients = tree-coefficients n (omega arith) hi (nodeTwiddle tree) (inverse-holds n lines lo hi t tree inverted)
-              column (scaled words31 (2 ^ (31 - n)) exit) h (ap (scaled words31 (2 ^ (31 - n))) is) (words-scaled (2 ^ (31 - n)) exit);
-        }
+        let is : exit ≡ scaled words31 (2 ^ (31 - n)) (interpolateBlock words31 n (nodeTwiddle tree) 1 column)
+        = e ∙ ap (λ (l : List ℕ). scaled words31 (2 ^ (31 - n)) (interpolateBlock words31 n (nodeTwiddle l) 1 column)) tree-taken in
+        tree-coefficients n (omega arith) hi (nodeTwiddle tree) (inverse-holds n lines lo hi t tree inverted)
+        column exit h is (λ k. rw is (words-scaled (2 ^ (31 - n)) (interpolateBlock words31 n (nodeTwiddle tree) 1 column) k))

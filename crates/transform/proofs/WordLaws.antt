@@ -6,7 +6,7 @@ use native.Mathlib.Nat as N
 use lib.ListN.{take, drop}
 use lib.Seq.{getD-drop}
 use Rattle.algebra.specs.M31.{P, P-pos}
-use Rattle.fields.specs.Words.{addP, subP, words31}
+use Rattle.fields.specs.Words.{addP, subP, mulP, words31}
 use Rattle.fields.specs.Inverse.{m31-representation}
 use Rattle.column.specs.Butterflies.{onHalves, butterflySum, butterflyDifference, butterflies, evaluateBlock, inverseSum, inverseDifference, inverseButterflies, interpolateBlock, scaled}
 use Rattle.column.specs.Blocks.{blocks}
@@ -102,3 +102,12 @@ add-partly u v m e = sym (N.add-mod-mod u v P) ∙ ap (λ (t : ℕ). (u + t) % P
 
 pub sub-partly : (u v m : ℕ) → v % P ≡ m → subP u v ≡ subP u m
 sub-partly u v m e = ap (λ (t : ℕ). (u + (P - t) % P) % P) (sym (N.mod-mod v P) ∙ ap (λ (t : ℕ). t % P) e)
+
+-- a butterfly by its partly reduced product
+pub partly-sum : (w x y v r : ℕ) → v % P ≡ mulP y w → r ≡ addP x v → r ≡ butterflySum words31 w x y
+unfolding butterflySum
+partly-sum w x y v r e f = f ∙ add-partly x v (mulP y w) e
+
+pub partly-difference : (w x y v r : ℕ) → v % P ≡ mulP y w → r ≡ subP x v → r ≡ butterflyDifference words31 w x y
+unfolding butterflyDifference
+partly-difference w x y v r e f = f ∙ sub-partly x v (mulP y w) e

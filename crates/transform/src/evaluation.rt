@@ -9,10 +9,10 @@ ghost use Rattle.column.specs.Blocks.{blocks};
 ghost use Rattle.transform.specs.Transform.{valuesOf, Column};
 ghost use Rattle.transform.specs.Tree.{Words, nodeTwiddle, pairTwiddle, evaluateEight, Block};
 use crate::twiddles;
-use circle::index::inner::to_point;
+use circle::index::inner::powers::power_point;
 use fields::m31::P;
 use fields::m31::inner::add;
-use fields::m31::inner::mul;
+use fields::m31::inner::mul_by_partly;
 use fields::m31::inner::mul_partly;
 use fields::m31::inner::sub;
 use orders::utils::inner::two_to;
@@ -26,7 +26,7 @@ fn butterflies(block: &mut [u32], half: usize, w: u32)
     while q < half {
         let other = half + q;
         let u = block[q];
-        let v = mul_partly(block[other], w);
+        let v = mul_by_partly(block[other], w);
         block[q] = add(u, v);
         block[other] = sub(u, v);
         q += 1;
@@ -54,12 +54,12 @@ fn four(block: &mut [u32], w: u32, v: u32)
 {
     let a = block[0];
     let b = block[1];
-    let c = mul(block[2], w);
-    let d = mul(block[3], w);
+    let c = mul_partly(block[2], w);
+    let d = mul_partly(block[3], w);
     let p = add(a, c);
-    let q = mul(add(b, d), v);
+    let q = mul_partly(add(b, d), v);
     let m = sub(a, c);
-    let n = mul(sub(b, d), v);
+    let n = mul_partly(sub(b, d), v);
     block[0] = add(p, q);
     block[1] = sub(p, q);
     block[2] = sub(m, n);
@@ -73,12 +73,12 @@ fn four_turned(block: &mut [u32], w: u32, v: u32)
 {
     let a = block[0];
     let b = block[1];
-    let c = mul(block[2], w);
-    let d = mul(block[3], w);
+    let c = mul_partly(block[2], w);
+    let d = mul_partly(block[3], w);
     let p = add(a, c);
-    let q = mul(add(b, d), v);
+    let q = mul_partly(add(b, d), v);
     let m = sub(a, c);
-    let n = mul(sub(b, d), v);
+    let n = mul_partly(sub(b, d), v);
     block[0] = sub(p, q);
     block[1] = add(p, q);
     block[2] = add(m, n);
@@ -155,7 +155,7 @@ fn evaluate_four(column: &mut [u32])
     requires { ⌜ Column 2 (now column) ⌝ }
     ensures { λ _. ⌜ now (column .exit) ≡ valuesOf 2 (now (column .entry)) ⌝ }
 {
-    let p = to_point(two_to(28));
+    let p = power_point(28);
     let x = p.x.0;
     four_turned(column, x, x);
 }

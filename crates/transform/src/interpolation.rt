@@ -9,7 +9,7 @@ ghost use Rattle.column.specs.Blocks.{blocks};
 ghost use Rattle.transform.specs.Transform.{Column, Coefficients};
 ghost use Rattle.transform.specs.Tree.{Words, nodeTwiddle, pairTwiddle, interpolateEight, Block, Unscaled};
 use crate::twiddles;
-use circle::index::inner::to_point;
+use circle::index::inner::powers::power_point;
 use fields::m31::P;
 use fields::m31::inner::add;
 use fields::m31::inner::mul;
@@ -129,22 +129,6 @@ fn layers(column: &mut [u32], tree: &[u32], i: usize, k: u32)
     }
 }
 
-// A block of 2^k words below node i; 2^k times the coefficients. Blocks that fit the cache go layer by layer, longer ones
-// half by half.
-fn block(column: &mut [u32], tree: &[u32], i: usize, k: u32)
-    requires { ⌜ Block (now column) (now tree) i k ⌝ }
-    ensures { λ _. ⌜ now (column .exit) ≡ interpolateBlock words31 k (nodeTwiddle (now (tree .entry))) i (now (column .entry)) ⌝ }
-{
-    if k <= 14 {
-        layers(column, tree, i, k);
-        return;
-    }
-    let half = column.len() / 2;
-    block(&mut column[..half], tree, 2 * i, k - 1);
-    block(&mut column[half..], tree, 2 * i + 1, k - 1);
-    inverse_butterflies(column, half, tree[i]);
-}
-
 // a 2^s modulo P: since 2^31 is 1, its 31 bits turned by s places.
 fn turned(a: u32, s: u32) -> u32
     requires { ⌜ (a < P) × (0 < s) × (s < 31) ⌝ }
@@ -165,6 +149,23 @@ fn scale(column: &mut [u32], s: u32)
     }
 }
 
+// A block of 2^k words below node i; 2^(k + s) times the coefficients. Blocks that fit the cache go layer by layer and are
+// scaled there, longer ones go half by half.
+fn block(column: &mut [u32], tree: &[u32], i: usize, k: u32, s: u32)
+    requires { ⌜ Block (now column) (now tree) i k × (0 < s) × (s < 31) ⌝ }
+    ensures { λ _. ⌜ now (column .exit) ≡ scaled words31 (2 ^ s) (interpolateBlock words31 k (nodeTwiddle (now (tree .entry))) i (now (column .entry))) ⌝ }
+{
+    if k <= 14 {
+        layers(column, tree, i, k);
+        scale(column, s);
+        return;
+    }
+    let half = column.len() / 2;
+    block(&mut column[..half], tree, 2 * i, k - 1, s);
+    block(&mut column[half..], tree, 2 * i + 1, k - 1, s);
+    inverse_butterflies(column, half, tree[i]);
+}
+
 // y is -1 at log size 1.
 fn interpolate_two(column: &mut [u32])
     requires { ⌜ Column 1 (now column) ⌝ }
@@ -178,34 +179,28 @@ fn interpolate_four(column: &mut [u32])
     requires { ⌜ Column 2 (now column) ⌝ }
     ensures { λ _. ⌜ Unscaled 2 (now (column .entry)) (now (column .exit)) ⌝ }
 {
-    let p = to_point(two_to(28));
+    let p = power_point(28);
     let x = p.x.0;
     let inverse = add(x, x);
     four_turned(column, inverse, inverse);
-}
-
-fn interpolate_unscaled(log_size: u32, column: &mut [u32], scratch: &mut [u32])
-    requires { ⌜ (1 ≤ «log_size») × («log_size» ≤ 30) × Column «log_size» (now column) × (2 ^ «log_size» ≤ length (now scratch)) ⌝ }
-    ensures { λ _. ⌜ Unscaled «log_size» (now (column .entry)) (now (column .exit)) × (length (now (scratch .exit)) ≡ length (now (scratch .entry))) × (drop (2 ^ «log_size») (now (scratch .exit)) ≡ drop (2 ^ «log_size») (now (scratch .entry))) ⌝ }
-{
-    if log_size == 1 {
-        interpolate_two(column);
-        return;
-    }
-    if log_size == 2 {
-        interpolate_four(column);
-        return;
-    }
-    let words = column.len() / 2;
-    twiddles::fill(&mut scratch[..words], log_size);
-    twiddles::invert(&mut scratch[..words]);
-    block(column, &scratch[..words], 1, log_size);
 }
 
 pub fn interpolate(log_size: u32, column: &mut [u32], scratch: &mut [u32])
     requires { ⌜ (1 ≤ «log_size») × («log_size» ≤ 30) × Column «log_size» (now column) × (2 ^ «log_size» ≤ length (now scratch)) ⌝ }
     ensures { λ _. ⌜ Coefficients «log_size» (now (column .exit)) (now (column .entry)) × (length (now (scratch .exit)) ≡ length (now (scratch .entry))) × (drop (2 ^ «log_size») (now (scratch .exit)) ≡ drop (2 ^ «log_size») (now (scratch .entry))) ⌝ }
 {
-    interpolate_unscaled(log_size, column, scratch);
-    scale(column, 31 - log_size);
+    if log_size == 1 {
+        interpolate_two(column);
+        scale(column, 30);
+        return;
+    }
+    if log_size == 2 {
+        interpolate_four(column);
+        scale(column, 29);
+        return;
+    }
+    let words = column.len() / 2;
+    twiddles::fill(&mut scratch[..words], log_size);
+    twiddles::invert(&mut scratch[..words]);
+    block(column, &scratch[..words], 1, log_size, 31 - log_size);
 }

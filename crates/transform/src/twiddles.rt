@@ -4,15 +4,31 @@ ghost use mathlib.Core.Path.{_≡_};
 ghost use Prim.Native.Nat.{ℕ, _+_, _*_, _-_, _^_, _≤_, _<_};
 ghost use lib.ListN.{length, getD};
 ghost use Rattle.algebra.specs.M31.{P};
-ghost use Rattle.fields.specs.Words.{mulP};
+ghost use Rattle.algebra.specs.Circle.{plus};
+ghost use Rattle.fields.specs.Words.{mulP, words31};
 ghost use Rattle.circle.specs.Point.{pointOf, Reduced};
 ghost use Rattle.transform.specs.Tree.{Words, LinesFrom, LineTree, beside, Invertible, Inverted, Points, Extended, Stepped, Doubled};
-use circle::index::inner::to_point;
+use circle::index::inner::powers::power_point;
 use circle::point::CirclePoint;
 use circle::point::inner as point;
 use fields::m31::M31;
 use fields::m31::inner as m31;
 use orders::utils::inner::two_to;
+
+// p + step. The step stays the same through a loop, and no product needs more than the sum or difference that it goes into.
+fn add_step(p: CirclePoint, step: CirclePoint) -> CirclePoint
+    requires { ⌜ (Reduced p) × (Reduced step) ⌝ }
+    ensures { λ r. ⌜ (pointOf r ≡ plus words31 (pointOf p) (pointOf step)) × Reduced r ⌝ }
+{
+    let xx = m31::mul_by(p.x.0, step.x.0);
+    let yy = m31::mul_by_partly(p.y.0, step.y.0);
+    let xy = m31::mul_by(p.x.0, step.y.0);
+    let yx = m31::mul_by_partly(p.y.0, step.x.0);
+    CirclePoint {
+        x: M31(m31::sub(xx, yy)),
+        y: M31(m31::add(xy, yx)),
+    }
+}
 
 // The points count, .., 2 count - 1 lie `step` further than the points 0, .., count - 1.
 fn add_points(level: &mut [u32], count: usize, step: CirclePoint)
@@ -27,15 +43,14 @@ fn add_points(level: &mut [u32], count: usize, step: CirclePoint)
             x: M31(level[from]),
             y: M31(level[from + 1]),
         };
-        let q = point::add(p, step);
+        let q = add_step(p, step);
         level[to] = q.x.0;
         level[to + 1] = q.y.0;
         c += 1;
     }
 }
 
-// The first 2^(s - 1) points: with every bit of c one more power of G is added. The step of a bit is half that of the bit
-// before it.
+// The first 2^(s - 1) points: with every bit of c one more power of G is added, with bit s the step.
 fn add_steps(level: &mut [u32], s: u32, step: CirclePoint)
     requires { ⌜ (1 ≤ s) × (s ≤ 28) × (2 ^ s ≤ length (now level)) × (getD (now level) 0 0 < P) × (getD (now level) 1 0 < P) × Reduced step ⌝ }
     ensures { λ _. ⌜ Stepped s (pointOf step) (now (level .entry)) (now (level .exit)) ⌝ }
@@ -43,7 +58,7 @@ fn add_steps(level: &mut [u32], s: u32, step: CirclePoint)
     if s < 2 {
         return;
     }
-    add_steps(level, s - 1, point::add(step, step));
+    add_steps(level, s - 1, power_point(31 - s));
     let count = two_to(s - 2) as usize;
     add_points(level, count, step);
 }
@@ -53,11 +68,10 @@ fn fill_points(level: &mut [u32], log_size: u32)
     requires { ⌜ (3 ≤ «log_size») × («log_size» ≤ 30) × (4 * length (now level) ≡ 2 ^ «log_size») ⌝ }
     ensures { λ _. ⌜ Points «log_size» (2 ^ («log_size» - 3)) (now (level .exit)) ⌝ }
 {
-    let start = to_point(two_to(30 - log_size));
+    let start = power_point(30 - log_size);
     level[0] = start.x.0;
     level[1] = start.y.0;
-    let twice = point::add(start, start);
-    add_steps(level, log_size - 2, point::add(twice, twice));
+    add_steps(level, log_size - 2, power_point(32 - log_size));
 }
 
 // The nodes first, .., 2 first - 1 from their children.

@@ -6,6 +6,7 @@ ghost use Rattle.circle.specs.Index.{indexPoint, subgroupGen};
 use crate::point::CirclePoint;
 use crate::point::M31_CIRCLE_LOG_ORDER;
 
+pub mod powers;
 mod table;
 
 // 2^31, the largest index and the order of G

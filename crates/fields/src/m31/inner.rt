@@ -22,6 +22,14 @@ pub fn partial_reduce(val: u32) -> u32
     (val + (val + 1) / TWO_POW_31) % TWO_POW_31
 }
 
+// Down to P, which stands for 0.
+fn reduce_partly(val: u32) -> u32
+    requires { ⌜ val < 2 * P ⌝ }
+    ensures { λ r. ⌜ (r % P ≡ val % P) × (r ≤ P) ⌝ }
+{
+    val % TWO_POW_31 + val / TWO_POW_31
+}
+
 pub fn reduce(val: u64) -> u32
     requires { ⌜ val < P * P ⌝ }
     ensures { λ r. ⌜ r ≡ val % P ⌝ }
@@ -91,12 +99,22 @@ pub fn mul_by(a: u32, w: u32) -> u32
 }
 
 // The same for a sum and a difference, which reduce it: P may stand for 0.
-pub fn mul_partly(a: u32, w: u32) -> u32
+pub fn mul_by_partly(a: u32, w: u32) -> u32
     requires { ⌜ (a < P) × (w < P) ⌝ }
     ensures { λ r. ⌜ (r % P ≡ mulP a w) × (r ≤ P) ⌝ }
 {
-    let halves = halves_by(a, w);
-    halves % TWO_POW_31 + halves / TWO_POW_31
+    reduce_partly(halves_by(a, w))
+}
+
+// The same where both factors change.
+pub fn mul_partly(a: u32, b: u32) -> u32
+    requires { ⌜ (a < P) × (b < P) ⌝ }
+    ensures { λ r. ⌜ (r % P ≡ mulP a b) × (r ≤ P) ⌝ }
+{
+    let wide = product(a, b);
+    let low = (wide % TWO_POW_31_U64) as u32;
+    let high = (wide / TWO_POW_31_U64) as u32;
+    reduce_partly(low + high)
 }
 
 // Any number: the bits from 31 on are added to those below, twice.

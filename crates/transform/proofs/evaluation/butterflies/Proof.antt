@@ -6,7 +6,7 @@ use borrow.Author.Needs.{needs}
 use Rattle.algebra.specs.M31.{P}
 use Rattle.fields.specs.Words.{words31}
 use Rattle.column.specs.Butterflies.{butterflySum, butterflyDifference, butterflies}
-use Rattle.transform.proofs.WordLaws.{add-partly, sub-partly}
+use Rattle.transform.proofs.WordLaws.{partly-sum, partly-difference}
 use Rattle.transform.proofs.Halves.{halfway, halfway-start, halfway-end, first-word, second-word, halfway-next}
 use Rattle.transform.proofs.evaluation.butterflies.Statement.{statement}
 use Rattle.transform.proofs.evaluation.butterflies.Tie as tie
@@ -46,17 +46,17 @@ mul-u c = search needs
 slice-read-u : tie.Need-slice-read-u Inv-loop μ-loop
 slice-read-u c = omega arith
 
-mul-mul-partly : tie.Need-mul-mul-partly Inv-loop μ-loop
-mul-mul-partly c = search needs
+mul-mul-by-partly : tie.Need-mul-mul-by-partly Inv-loop μ-loop
+mul-mul-by-partly c = search needs
 
-slice-read-mul-partly : tie.Need-slice-read-mul-partly Inv-loop μ-loop
-slice-read-mul-partly c = omega arith
+slice-read-mul-by-partly : tie.Need-slice-read-mul-by-partly Inv-loop μ-loop
+slice-read-mul-by-partly c = omega arith
 
-mul-partly-requires : tie.Need-mul-partly-requires Inv-loop μ-loop
-mul-partly-requires c κs = (upper-word (c .before .before), search needs)
+mul-by-partly-requires : tie.Need-mul-by-partly-requires Inv-loop μ-loop
+mul-by-partly-requires c κs = (upper-word (c .before .before), search needs)
 
 add-requires : tie.Need-add-requires Inv-loop μ-loop
-add-requires c κs = (lower-word (c .before .before .before), c .mul-partly .ensures .1)
+add-requires c κs = (lower-word (c .before .before .before), c .mul-by-partly .ensures .1)
 
 mul-block : tie.Need-mul-block Inv-loop μ-loop
 mul-block c = search needs
@@ -65,7 +65,7 @@ slice-write-block : tie.Need-slice-write-block Inv-loop μ-loop
 slice-write-block c = omega arith
 
 sub-requires : tie.Need-sub-requires Inv-loop μ-loop
-sub-requires c κs = (lower-word (c .before .before .before .before), c .before .mul-partly .ensures .1)
+sub-requires c κs = (lower-word (c .before .before .before .before), c .before .mul-by-partly .ensures .1)
 
 mul-block-2 : tie.Need-mul-block-2 Inv-loop μ-loop
 mul-block-2 c = search needs
@@ -80,17 +80,16 @@ loop-less : tie.Need-loop-less Inv-loop μ-loop
 loop-less c = omega arith
 
 loop-again : tie.Need-loop-again Inv-loop μ-loop
-unfolding butterflySum butterflyDifference
 loop-again c =
     let d : tie.In-loop Inv-loop μ-loop = c .before .before .before .before .before in
     let s = d .before .before .before in
     let u = getD (d .before .loop .block) (d .before .loop .q) 0 in
-    let v = c .before .before .mul-partly .result in
-    let product = c .before .before .mul-partly .ensures .0 in (
+    let v = c .before .before .mul-by-partly .result in
+    let product = c .before .before .mul-by-partly .ensures .0 in (
       omega arith,
       halfway-next (butterflySum words31 (s .args .w)) (butterflyDifference words31 (s .args .w)) (s .args .block .now) (s .args .half) (s .pre .0)
           (d .before .loop .block) (d .before .loop .q) (d .loop-test .taken) (d .before .loop .inv .1) (c .before .add .result) (c .sub .result)
-          (c .before .add .ensures ∙ add-partly u v _ product) (c .sub .ensures ∙ sub-partly u v _ product),
+          (partly-sum _ u _ v _ product (c .before .add .ensures)) (partly-difference _ u _ v _ product (c .sub .ensures)),
       simp (length-set) (d .before .loop .inv .2),
     )
 
@@ -115,9 +114,9 @@ butterflies-spec =
     add-other
     mul-u
     slice-read-u
-    mul-mul-partly
-    slice-read-mul-partly
-    mul-partly-requires
+    mul-mul-by-partly
+    slice-read-mul-by-partly
+    mul-by-partly-requires
     add-requires
     mul-block
     slice-write-block

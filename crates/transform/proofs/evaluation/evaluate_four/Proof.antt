@@ -5,16 +5,13 @@ use Rattle.transform.proofs.SmallSizes.{four-evaluated-values, two-star
 use Rattle.transform.proofs.evaluation.evaluate_four.Statement.{statement}
 use Rattle.transform.proofs.evaluation.evaluate_four.Tie as tie
 
-two-to-requires : tie.Need-two-to-requires
-two-to-requires c κs = search needs
-
-to-point-requires : tie.Need-to-point-requires
-to-point-requires c κs = search needs
+power-point-requires : tie.Need-power-point-requires
+power-point-requires c κs = search needs
 
 four-turned-requires : tie.Need-four-turned-requires
 four-turned-requires c κs =
-    let s = c .before .before .before .before in
-    let x-word = c .before .to-point .ensures .1 .0 in
+    let s = c .before .before .before in
+    let x-word = c .before .power-point .ensures .1 .0 in
     (s .pre .size, x-word, x-word, column-words 2 (s .args .column .now) (s .pre))
 
 same-length : tie.Need-same-length
@@ -23,11 +20,10 @@ same-length c = search needs
 returns : tie.Need-returns
 returns c =
     let four = c .before .before .four-turned in
-    let point = c .before .before .before .before .to-point in
-    let power = c .before .before .before .before .before .two-to in
-    let s = c .before .before .before .before .before .before .before in
-    four-evaluated-values (point .result .x .0) (two-start (pointOf (point .result)) (power .result) (point .ensures .0) (power .ensures)) (s .args .column .now) (four .last .0) (s .pre) (four .ensures)
+    let point = c .before .before .before .before .power-point in
+    let s = c .before .before .before .before .before .before in
+    four-evaluated-values (point .result .x .0) (two-start (pointOf (point .result)) (point .ensures .0)) (s .args .column .now) (four .last .0) (s .pre) (four .ensures)
 
 pub evaluate-four-spec : {M : Type 1} → statement M
 evaluate-four-spec =
-    tie.close (tie.spec two-to-requires to-point-requires four-turned-requires same-length returns)
+    tie.close (tie.spec power-point-requires four-turned-requires same-length returns)

@@ -1,5 +1,8 @@
+use mathlib.Core.Path.{_∙_, ap₂}
 use borrow.Author.Needs.{needs}
+use Rattle.fields.specs.Words.{words31}
 use Rattle.column.specs.Butterflies.{butterflySum, butterflyDifference}
+use Rattle.transform.proofs.WordLaws.{partly-sum, partly-difference}
 use Rattle.transform.proofs.Fours.{turned-evaluated}
 use Rattle.transform.proofs.evaluation.four_turned.Statement.{statement}
 use Rattle.transform.proofs.evaluation.four_turned.Tie as tie
@@ -10,17 +13,17 @@ slice-read-a c = search needs
 slice-read-b : tie.Need-slice-read-b
 slice-read-b c = search needs
 
-slice-read-mul : tie.Need-slice-read-mul
-slice-read-mul c = search needs
+slice-read-mul-partly : tie.Need-slice-read-mul-partly
+slice-read-mul-partly c = search needs
 
-mul-requires : tie.Need-mul-requires
-mul-requires c κs = (c .before .before .before .before .pre .3 2, search needs)
+mul-partly-requires : tie.Need-mul-partly-requires
+mul-partly-requires c κs = (c .before .before .before .before .pre .3 2, search needs)
 
-slice-read-mul-2 : tie.Need-slice-read-mul-2
-slice-read-mul-2 c = search needs
+slice-read-mul-partly-2 : tie.Need-slice-read-mul-partly-2
+slice-read-mul-partly-2 c = search needs
 
-mul-requires-2 : tie.Need-mul-requires-2
-mul-requires-2 c κs = (c .before .before .before .before .before .before .pre .3 3, search needs)
+mul-partly-requires-2 : tie.Need-mul-partly-requires-2
+mul-partly-requires-2 c κs = (c .before .before .before .before .before .before .pre .3 3, search needs)
 
 add-requires : tie.Need-add-requires
 add-requires c κs = (c .before .before .before .before .before .before .before .pre .3 0, search needs)
@@ -28,8 +31,8 @@ add-requires c κs = (c .before .before .before .before .before .before .before 
 add-requires-2 : tie.Need-add-requires-2
 add-requires-2 c κs = (c .before .before .before .before .before .before .before .before .pre .3 1, search needs)
 
-mul-requires-3 : tie.Need-mul-requires-3
-mul-requires-3 c κs = search needs
+mul-partly-requires-3 : tie.Need-mul-partly-requires-3
+mul-partly-requires-3 c κs = search needs
 
 sub-requires : tie.Need-sub-requires
 sub-requires c κs = (c .before .before .before .before .before .before .before .before .before .before .pre .3 0, search needs)
@@ -37,8 +40,8 @@ sub-requires c κs = (c .before .before .before .before .before .before .before 
 sub-requires-2 : tie.Need-sub-requires-2
 sub-requires-2 c κs = (c .before .before .before .before .before .before .before .before .before .before .before .pre .3 1, search needs)
 
-mul-requires-4 : tie.Need-mul-requires-4
-mul-requires-4 c κs = search needs
+mul-partly-requires-4 : tie.Need-mul-partly-requires-4
+mul-partly-requires-4 c κs = search needs
 
 sub-requires-3 : tie.Need-sub-requires-3
 sub-requires-3 c κs = search needs
@@ -68,10 +71,22 @@ same-length : tie.Need-same-length
 same-length c = search needs
 
 returns : tie.Need-returns
-unfolding butterflySum butterflyDifference
 returns c =
     let s = c .before .before .before .before .before .before .before .before .before .before .before .before .before .before .before .before .before in
-    turned-evaluated (s .args .w) (s .args .v) (s .args .block .now) (s .pre .0) _ _ _ _ (cc) (cc) (cc) (cc)
+    let v = s .args .v in
+    let first = c .before .before .before .before .before .before .before .before .before .before .before .before .mul-partly in
+    let second = c .before .before .before .before .before .before .before .before .before .before .mul-partly2 in
+    let p = partly-sum _ _ _ _ _ (first .ensures .0) (c .before .before .before .before .before .before .before .before .before .add .ensures) in
+    let q = partly-sum _ _ _ _ _ (second .ensures .0) (c .before .before .before .before .before .before .before .before .add2 .ensures) in
+    let m = partly-difference _ _ _ _ _ (first .ensures .0) (c .before .before .before .before .before .before .sub .ensures) in
+    let n = partly-difference _ _ _ _ _ (second .ensures .0) (c .before .before .before .before .before .sub2 .ensures) in
+    let third = c .before .before .before .before .before .before .before .mul-partly3 .ensures .0 in
+    let fourth = c .before .before .before .before .mul-partly4 .ensures .0 in
+    turned-evaluated (s .args .w) v (s .args .block .now) (s .pre .0) _ _ _ _
+    (partly-difference _ _ _ _ _ third (c .before .before .before .sub3 .ensures) ∙ ap₂ (butterflyDifference words31 v) p q)
+    (partly-sum _ _ _ _ _ third (c .before .before .add3 .ensures) ∙ ap₂ (butterflySum words31 v) p q)
+    (partly-sum _ _ _ _ _ fourth (c .before .add4 .ensures) ∙ ap₂ (butterflySum words31 v) m n)
+    (partly-difference _ _ _ _ _ fourth (c .sub4 .ensures) ∙ ap₂ (butterflyDifference words31 v) m n)
 
 pub four-turned-spec : {M : Type 1} → statement M
 four-turned-spec =
@@ -79,16 +94,16 @@ four-turned-spec =
     (tie.spec
     slice-read-a
     slice-read-b
-    slice-read-mul
-    mul-requires
-    slice-read-mul-2
-    mul-requires-2
+    slice-read-mul-partly
+    mul-partly-requires
+    slice-read-mul-partly-2
+    mul-partly-requires-2
     add-requires
     add-requires-2
-    mul-requires-3
+    mul-partly-requires-3
     sub-requires
     sub-requires-2
-    mul-requires-4
+    mul-partly-requires-4
     sub-requires-3
     slice-write-block
     add-requires-3

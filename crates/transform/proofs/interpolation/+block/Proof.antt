@@ -1,16 +1,21 @@
-use Prim.Native.Nat.{ℕ, _/_, _<_}
-use mathlib.Core.Path.{refl, sym}
+use Prim.Native.Nat.{ℕ, _/_, _^_, _<_}
+use mathlib.Core.Path.{refl, sym, _∙_, ap}
 use native.Mathlib.Omega.{arith}
 use lib.ListN.{length}
 use borrow.Author.Needs.{needs}
 use borrow.Fn.Kinds.{In}
 use borrow.Fn.PlainCycle.{Measures, is, falls, and}
+use Rattle.fields.specs.Words.{words31}
+use Rattle.column.specs.Butterflies.{scaled}
+use Rattle.transform.specs.Tree.{nodeTwiddle}
+use Rattle.transform.proofs.WordLaws.{words-interpolate}
 use Rattle.transform.proofs.HalfBlocks.{halves-size, node-room, lower-length, middle-length, lower-block, upper-block, joined-length, joined-words, block-interpolated}
 use Rattle.transform.proofs.interpolation.block.Reads as block
 use Rattle.transform.proofs.interpolation.block.Kinds as block-kinds
 use Rattle.transform.proofs.interpolation.+block.Lts-block as block-lts
 use Rattle.transform.proofs.interpolation.inverse_butterflies.Reads as inverse-butterflies-reads
 use Rattle.transform.proofs.interpolation.layers.Reads as layers-reads
+use Rattle.transform.proofs.interpolation.scale.Reads as scale-reads
 use Rattle.transform.proofs.interpolation.+block.{statement}
 use Rattle.transform.proofs.interpolation.+block.Tie.{close}
 
@@ -26,16 +31,35 @@ block-below t = and 2 block-kinds.ps (falls 2 block-kinds.ps _<_ μ-block t) blo
 block-layers-requires : (t : ℕ) → block-lts.Need-layers-requires (
   layers-reads.Asked,
   layers-reads.Learnt,
+  scale-reads.Asked,
+  scale-reads.Learnt,
   block-below t,
   block.Post,
   inverse-butterflies-reads.Asked,
   inverse-butterflies-reads.Learnt,
 ) (block-at t) block.Post
-block-layers-requires t c κs = c .before .before .before .before .pre .1
+block-layers-requires t c κs = c .before .before .before .before .pre .1 .0
+
+block-scale-requires : (t : ℕ) → block-lts.Need-scale-requires (
+  layers-reads.Asked,
+  layers-reads.Learnt,
+  scale-reads.Asked,
+  scale-reads.Learnt,
+  block-below t,
+  block.Post,
+  inverse-butterflies-reads.Asked,
+  inverse-butterflies-reads.Learnt,
+) (block-at t) block.Post
+block-scale-requires t c κs =
+    let s = c .before .before .before .before .before .before .before .before in
+    let layers = c .before .before .before .layers in
+    (s .pre .1 .1, s .pre .1 .2, λ j. rw (layers .ensures) (words-interpolate (s .args .k) (nodeTwiddle (s .args .tree .now)) (s .args .i) (s .args .column .now) (s .pre .1 .0 .words) j))
 
 block-same-length : (t : ℕ) → block-lts.Need-same-length (
   layers-reads.Asked,
   layers-reads.Learnt,
+  scale-reads.Asked,
+  scale-reads.Learnt,
   block-below t,
   block.Post,
   inverse-butterflies-reads.Asked,
@@ -46,16 +70,22 @@ block-same-length t c = search needs
 block-returns : (t : ℕ) → block-lts.Need-returns (
   layers-reads.Asked,
   layers-reads.Learnt,
+  scale-reads.Asked,
+  scale-reads.Learnt,
   block-below t,
   block.Post,
   inverse-butterflies-reads.Asked,
   inverse-butterflies-reads.Learnt,
 ) (block-at t) block.Post
-block-returns t c = c .before .before .layers .ensures
+block-returns t c =
+    let s = c .before .before .before .before .before .before .before .before .before .before .before in
+    c .before .before .scale .ensures ∙ ap (scaled words31 (2 ^ s .args .s)) (c .before .before .before .before .before .before .layers .ensures)
 
 block-slice-relend-prefix-block : (t : ℕ) → block-lts.Need-slice-relend-prefix-block (
   layers-reads.Asked,
   layers-reads.Learnt,
+  scale-reads.Asked,
+  scale-reads.Learnt,
   block-below t,
   block.Post,
   inverse-butterflies-reads.Asked,
@@ -66,6 +96,8 @@ block-slice-relend-prefix-block t c = search needs
 block-slice-aggregate-block : (t : ℕ) → block-lts.Need-slice-aggregate-block (
   layers-reads.Asked,
   layers-reads.Learnt,
+  scale-reads.Asked,
+  scale-reads.Learnt,
   block-below t,
   block.Post,
   inverse-butterflies-reads.Asked,
@@ -74,11 +106,13 @@ block-slice-aggregate-block : (t : ℕ) → block-lts.Need-slice-aggregate-block
 block-slice-aggregate-block t c =
     let s = c .before .before .before .before in
     let big : 14 < s .args .k = omega arith in
-    sym (lower-length (s .args .column .now) (length (s .args .column .now) / 2) (halves-size (s .args .column .now) (s .args .tree .now) (s .args .i) (s .args .k) (s .pre .1) big (length (s .args .column .now) / 2) refl))
+    sym (lower-length (s .args .column .now) (length (s .args .column .now) / 2) (halves-size (s .args .column .now) (s .args .tree .now) (s .args .i) (s .args .k) (s .pre .1 .0) big (length (s .args .column .now) / 2) refl))
 
 block-mul-block : (t : ℕ) → block-lts.Need-mul-block (
   layers-reads.Asked,
   layers-reads.Learnt,
+  scale-reads.Asked,
+  scale-reads.Learnt,
   block-below t,
   block.Post,
   inverse-butterflies-reads.Asked,
@@ -87,11 +121,13 @@ block-mul-block : (t : ℕ) → block-lts.Need-mul-block (
 block-mul-block t c =
     let s = c .before .before .before .before in
     let big : 14 < s .args .k = omega arith in
-    omega (arith, node-room (s .args .column .now) (s .args .tree .now) (s .args .i) (s .args .k) (s .pre .1) big (length (s .args .column .now) / 2) refl)
+    omega (arith, node-room (s .args .column .now) (s .args .tree .now) (s .args .i) (s .args .k) (s .pre .1 .0) big (length (s .args .column .now) / 2) refl)
 
 block-sub-block : (t : ℕ) → block-lts.Need-sub-block (
   layers-reads.Asked,
   layers-reads.Learnt,
+  scale-reads.Asked,
+  scale-reads.Learnt,
   block-below t,
   block.Post,
   inverse-butterflies-reads.Asked,
@@ -102,6 +138,8 @@ block-sub-block t c = search needs
 block-block-requires : (t : ℕ) → block-lts.Need-block-requires (
   layers-reads.Asked,
   layers-reads.Learnt,
+  scale-reads.Asked,
+  scale-reads.Learnt,
   block-below t,
   block.Post,
   inverse-butterflies-reads.Asked,
@@ -110,11 +148,13 @@ block-block-requires : (t : ℕ) → block-lts.Need-block-requires (
 block-block-requires t c κs =
     let s = c .before .before .before .before in
     let big : 14 < s .args .k = omega arith in
-    (omega arith, lower-block (s .args .column .now) (s .args .tree .now) (s .args .i) (s .args .k) (s .pre .1) big (length (s .args .column .now) / 2) refl)
+    (omega arith, (lower-block (s .args .column .now) (s .args .tree .now) (s .args .i) (s .args .k) (s .pre .1 .0) big (length (s .args .column .now) / 2) refl, s .pre .1 .1, s .pre .1 .2))
 
 block-mul-block-2 : (t : ℕ) → block-lts.Need-mul-block-2 (
   layers-reads.Asked,
   layers-reads.Learnt,
+  scale-reads.Asked,
+  scale-reads.Learnt,
   block-below t,
   block.Post,
   inverse-butterflies-reads.Asked,
@@ -125,6 +165,8 @@ block-mul-block-2 t c = search needs
 block-sub-block-2 : (t : ℕ) → block-lts.Need-sub-block-2 (
   layers-reads.Asked,
   layers-reads.Learnt,
+  scale-reads.Asked,
+  scale-reads.Learnt,
   block-below t,
   block.Post,
   inverse-butterflies-reads.Asked,
@@ -134,11 +176,13 @@ block-sub-block-2 t c =
     let s = c .before .before .before .before .before .before .before in
     let big : 14 < s .args .k = omega arith in
     let lower = c .before .before .block in
-    omega (arith, middle-length (s .args .column .now) (length (s .args .column .now) / 2) (halves-size (s .args .column .now) (s .args .tree .now) (s .args .i) (s .args .k) (s .pre .1) big (length (s .args .column .now) / 2) refl) (lower .last .0) (lower .kept .0))
+    omega (arith, middle-length (s .args .column .now) (length (s .args .column .now) / 2) (halves-size (s .args .column .now) (s .args .tree .now) (s .args .i) (s .args .k) (s .pre .1 .0) big (length (s .args .column .now) / 2) refl) (lower .last .0) (lower .kept .0))
 
 block-part-block-start : (t : ℕ) → block-lts.Need-part-block-start (
   layers-reads.Asked,
   layers-reads.Learnt,
+  scale-reads.Asked,
+  scale-reads.Learnt,
   block-below t,
   block.Post,
   inverse-butterflies-reads.Asked,
@@ -148,11 +192,13 @@ block-part-block-start t c =
     let s = c .before .before .before .before .before .before .before in
     let big : 14 < s .args .k = omega arith in
     let lower = c .before .before .block in
-    omega (arith, middle-length (s .args .column .now) (length (s .args .column .now) / 2) (halves-size (s .args .column .now) (s .args .tree .now) (s .args .i) (s .args .k) (s .pre .1) big (length (s .args .column .now) / 2) refl) (lower .last .0) (lower .kept .0))
+    omega (arith, middle-length (s .args .column .now) (length (s .args .column .now) / 2) (halves-size (s .args .column .now) (s .args .tree .now) (s .args .i) (s .args .k) (s .pre .1 .0) big (length (s .args .column .now) / 2) refl) (lower .last .0) (lower .kept .0))
 
 block-part-block-end : (t : ℕ) → block-lts.Need-part-block-end (
   layers-reads.Asked,
   layers-reads.Learnt,
+  scale-reads.Asked,
+  scale-reads.Learnt,
   block-below t,
   block.Post,
   inverse-butterflies-reads.Asked,
@@ -163,6 +209,8 @@ block-part-block-end t c = search needs
 block-mul-block-3 : (t : ℕ) → block-lts.Need-mul-block-3 (
   layers-reads.Asked,
   layers-reads.Learnt,
+  scale-reads.Asked,
+  scale-reads.Learnt,
   block-below t,
   block.Post,
   inverse-butterflies-reads.Asked,
@@ -171,11 +219,13 @@ block-mul-block-3 : (t : ℕ) → block-lts.Need-mul-block-3 (
 block-mul-block-3 t c =
     let s = c .before .before .before .before .before .before .before .before in
     let big : 14 < s .args .k = omega arith in
-    omega (arith, node-room (s .args .column .now) (s .args .tree .now) (s .args .i) (s .args .k) (s .pre .1) big (length (s .args .column .now) / 2) refl)
+    omega (arith, node-room (s .args .column .now) (s .args .tree .now) (s .args .i) (s .args .k) (s .pre .1 .0) big (length (s .args .column .now) / 2) refl)
 
 block-add-block : (t : ℕ) → block-lts.Need-add-block (
   layers-reads.Asked,
   layers-reads.Learnt,
+  scale-reads.Asked,
+  scale-reads.Learnt,
   block-below t,
   block.Post,
   inverse-butterflies-reads.Asked,
@@ -184,11 +234,13 @@ block-add-block : (t : ℕ) → block-lts.Need-add-block (
 block-add-block t c =
     let s = c .before .before .before .before .before .before .before .before in
     let big : 14 < s .args .k = omega arith in
-    omega (arith, node-room (s .args .column .now) (s .args .tree .now) (s .args .i) (s .args .k) (s .pre .1) big (length (s .args .column .now) / 2) refl)
+    omega (arith, node-room (s .args .column .now) (s .args .tree .now) (s .args .i) (s .args .k) (s .pre .1 .0) big (length (s .args .column .now) / 2) refl)
 
 block-sub-block-3 : (t : ℕ) → block-lts.Need-sub-block-3 (
   layers-reads.Asked,
   layers-reads.Learnt,
+  scale-reads.Asked,
+  scale-reads.Learnt,
   block-below t,
   block.Post,
   inverse-butterflies-reads.Asked,
@@ -199,6 +251,8 @@ block-sub-block-3 t c = search needs
 block-block-requires-2 : (t : ℕ) → block-lts.Need-block-requires-2 (
   layers-reads.Asked,
   layers-reads.Learnt,
+  scale-reads.Asked,
+  scale-reads.Learnt,
   block-below t,
   block.Post,
   inverse-butterflies-reads.Asked,
@@ -208,11 +262,13 @@ block-block-requires-2 t c κs =
     let s = c .before .before .before .before .before .before .before .before in
     let big : 14 < s .args .k = omega arith in
     let lower = c .before .before .before .block in
-    (omega arith, upper-block (s .args .column .now) (s .args .tree .now) (s .args .i) (s .args .k) (s .pre .1) big (length (s .args .column .now) / 2) refl (lower .last .0) (lower .kept .0))
+    (omega arith, (upper-block (s .args .column .now) (s .args .tree .now) (s .args .i) (s .args .k) (s .pre .1 .0) big (length (s .args .column .now) / 2) refl (lower .last .0) (lower .kept .0), s .pre .1 .1, s .pre .1 .2))
 
 block-mul-inverse-butterflies : (t : ℕ) → block-lts.Need-mul-inverse-butterflies (
   layers-reads.Asked,
   layers-reads.Learnt,
+  scale-reads.Asked,
+  scale-reads.Learnt,
   block-below t,
   block.Post,
   inverse-butterflies-reads.Asked,
@@ -221,12 +277,14 @@ block-mul-inverse-butterflies : (t : ℕ) → block-lts.Need-mul-inverse-butterf
 block-mul-inverse-butterflies t c =
     let s = c .before .before .before .before .before .before .before .before .before .before .before .before in
     let big : 14 < s .args .k = omega arith in
-    omega (arith, node-room (s .args .column .now) (s .args .tree .now) (s .args .i) (s .args .k) (s .pre .1) big (length (s .args .column .now) / 2) refl)
+    omega (arith, node-room (s .args .column .now) (s .args .tree .now) (s .args .i) (s .args .k) (s .pre .1 .0) big (length (s .args .column .now) / 2) refl)
 
 block-shared-slice-read-inverse-butterflies :
     (t : ℕ) → block-lts.Need-shared-slice-read-inverse-butterflies (
       layers-reads.Asked,
       layers-reads.Learnt,
+      scale-reads.Asked,
+      scale-reads.Learnt,
       block-below t,
       block.Post,
       inverse-butterflies-reads.Asked,
@@ -235,11 +293,13 @@ block-shared-slice-read-inverse-butterflies :
 block-shared-slice-read-inverse-butterflies t c =
     let s = c .before .before .before .before .before .before .before .before .before .before .before .before .before in
     let big : 14 < s .args .k = omega arith in
-    node-room (s .args .column .now) (s .args .tree .now) (s .args .i) (s .args .k) (s .pre .1) big (length (s .args .column .now) / 2) refl
+    node-room (s .args .column .now) (s .args .tree .now) (s .args .i) (s .args .k) (s .pre .1 .0) big (length (s .args .column .now) / 2) refl
 
 block-inverse-butterflies-requires : (t : ℕ) → block-lts.Need-inverse-butterflies-requires (
   layers-reads.Asked,
   layers-reads.Learnt,
+  scale-reads.Asked,
+  scale-reads.Learnt,
   block-below t,
   block.Post,
   inverse-butterflies-reads.Asked,
@@ -250,14 +310,16 @@ block-inverse-butterflies-requires t c κs =
     let big : 14 < s .args .k = omega arith in
     let lower = c .before .before .before .before .before .before .before .before .block in
     let upper = c .before .before .before .before .block2 in (
-      joined-length (s .args .column .now) (s .args .tree .now) (s .args .i) (s .args .k) (s .pre .1) big (length (s .args .column .now) / 2) refl (lower .last .0) (lower .kept .0) (upper .last .0) (lower .ensures) (upper .ensures),
-      s .pre .1 .twiddles (s .args .i),
-      joined-words (s .args .column .now) (s .args .tree .now) (s .args .i) (s .args .k) (s .pre .1) big (length (s .args .column .now) / 2) refl (lower .last .0) (lower .kept .0) (upper .last .0) (lower .ensures) (upper .ensures),
+      joined-length (s .args .column .now) (s .args .tree .now) (s .args .i) (s .args .k) (s .pre .1 .0) big (length (s .args .column .now) / 2) refl (lower .last .0) (lower .kept .0) (2 ^ s .args .s) (upper .last .0) (lower .ensures) (upper .ensures),
+      s .pre .1 .0 .twiddles (s .args .i),
+      joined-words (s .args .column .now) (s .args .tree .now) (s .args .i) (s .args .k) (s .pre .1 .0) big (length (s .args .column .now) / 2) refl (lower .last .0) (lower .kept .0) (2 ^ s .args .s) (upper .last .0) (lower .ensures) (upper .ensures),
     )
 
 block-same-length-2 : (t : ℕ) → block-lts.Need-same-length-2 (
   layers-reads.Asked,
   layers-reads.Learnt,
+  scale-reads.Asked,
+  scale-reads.Learnt,
   block-below t,
   block.Post,
   inverse-butterflies-reads.Asked,
@@ -268,6 +330,8 @@ block-same-length-2 t c = search needs
 block-returns-2 : (t : ℕ) → block-lts.Need-returns-2 (
   layers-reads.Asked,
   layers-reads.Learnt,
+  scale-reads.Asked,
+  scale-reads.Learnt,
   block-below t,
   block.Post,
   inverse-butterflies-reads.Asked,
@@ -279,12 +343,14 @@ block-returns-2 t c =
     let lower = c .before .before .before .before .before .before .before .before .before .before .before .block in
     let upper = c .before .before .before .before .before .before .before .block2 in
     let inverse = c .before .before .inverse-butterflies in
-    block-interpolated (s .args .column .now) (s .args .tree .now) (s .args .i) (s .args .k) (s .pre .1) big (length (s .args .column .now) / 2) refl (lower .last .0) (lower .kept .0) (upper .last .0) (lower .ensures) (upper .ensures) (inverse .last .0) (inverse .ensures)
+    block-interpolated (s .args .column .now) (s .args .tree .now) (s .args .i) (s .args .k) (s .pre .1 .0) big (length (s .args .column .now) / 2) refl (lower .last .0) (lower .kept .0) (2 ^ s .args .s) (upper .last .0) (lower .ensures) (upper .ensures) (inverse .last .0) (inverse .ensures)
 
 pub +block-spec : {M : Type 1} → statement M
 +block-spec = close μ-block λ t. block-lts.spec (
   layers-reads.Asked,
   layers-reads.Learnt,
+  scale-reads.Asked,
+  scale-reads.Learnt,
   block-below t,
   block.Post,
   inverse-butterflies-reads.Asked,
@@ -293,6 +359,7 @@ pub +block-spec : {M : Type 1} → statement M
     (block-at t)
     block.Post
     (block-layers-requires t)
+    (block-scale-requires t)
     (block-same-length t)
     (block-returns t)
     (block-slice-relend-prefix-block t)

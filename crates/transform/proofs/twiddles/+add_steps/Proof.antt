@@ -9,7 +9,7 @@ use borrow.Fn.PlainCycle.{Measures, is, falls, and}
 use Rattle.transform.proofs.twiddles.add_steps.Reads as add-steps
 use Rattle.transform.proofs.twiddles.add_steps.Kinds as add-steps-kinds
 use Rattle.transform.proofs.twiddles.+add_steps.Lts-add_steps as add-steps-lts
-use Rattle.circle.proofs.point.inner.add.Reads as add-reads
+use Rattle.circle.proofs.index.inner.powers.power_point.Reads as power-point-reads
 use Rattle.orders.proofs.utils.inner.two_to.Reads as two-to-reads
 use Rattle.transform.proofs.twiddles.add_points.Reads as add-points-reads
 use Rattle.transform.proofs.twiddles.+add_steps.{statement}
@@ -26,8 +26,8 @@ add-steps-below t =
     and 1 add-steps-kinds.ps (falls 1 add-steps-kinds.ps _<_ μ-add-steps t) add-steps.Pre
 
 add-steps-returns : (t : ℕ) → add-steps-lts.Need-returns (
-  add-reads.Asked,
-  add-reads.Learnt,
+  power-point-reads.Asked,
+  power-point-reads.Learnt,
   add-steps-below t,
   add-steps.Post,
   two-to-reads.Asked,
@@ -40,8 +40,8 @@ add-steps-returns t c =
     first-step (s .args .s) (pointOf (s .args .step)) (s .args .level .now) (s .pre .1 .0) (c .if1 .taken) (s .pre .1 .3) (s .pre .1 .4)
 
 add-steps-sub-add-steps : (t : ℕ) → add-steps-lts.Need-sub-add-steps (
-  add-reads.Asked,
-  add-reads.Learnt,
+  power-point-reads.Asked,
+  power-point-reads.Learnt,
   add-steps-below t,
   add-steps.Post,
   two-to-reads.Asked,
@@ -51,9 +51,9 @@ add-steps-sub-add-steps : (t : ℕ) → add-steps-lts.Need-sub-add-steps (
 ) (add-steps-at t) add-steps.Post
 add-steps-sub-add-steps t c = search needs
 
-add-steps-add-requires : (t : ℕ) → add-steps-lts.Need-add-requires (
-  add-reads.Asked,
-  add-reads.Learnt,
+add-steps-sub-power-point : (t : ℕ) → add-steps-lts.Need-sub-power-point (
+  power-point-reads.Asked,
+  power-point-reads.Learnt,
   add-steps-below t,
   add-steps.Post,
   two-to-reads.Asked,
@@ -61,11 +61,23 @@ add-steps-add-requires : (t : ℕ) → add-steps-lts.Need-add-requires (
   add-points-reads.Asked,
   add-points-reads.Learnt,
 ) (add-steps-at t) add-steps.Post
-add-steps-add-requires t c κs = let step = c .before .before .before .pre .1 .5 in (step, step)
+add-steps-sub-power-point t c = search needs
+
+add-steps-power-point-requires : (t : ℕ) → add-steps-lts.Need-power-point-requires (
+  power-point-reads.Asked,
+  power-point-reads.Learnt,
+  add-steps-below t,
+  add-steps.Post,
+  two-to-reads.Asked,
+  two-to-reads.Learnt,
+  add-points-reads.Asked,
+  add-points-reads.Learnt,
+) (add-steps-at t) add-steps.Post
+add-steps-power-point-requires t c κs = search needs
 
 add-steps-add-steps-requires : (t : ℕ) → add-steps-lts.Need-add-steps-requires (
-  add-reads.Asked,
-  add-reads.Learnt,
+  power-point-reads.Asked,
+  power-point-reads.Learnt,
   add-steps-below t,
   add-steps.Post,
   two-to-reads.Asked,
@@ -82,13 +94,13 @@ add-steps-add-steps-requires t c κs =
         omega (arith, s .pre .1 .2, W.pow-mono {i = s .args .s - 1} {j = s .args .s} (omega arith)),
         s .pre .1 .3,
         s .pre .1 .4,
-        c .add .ensures .1,
+        c .power-point .ensures .1,
       ),
     )
 
 add-steps-two-to-requires : (t : ℕ) → add-steps-lts.Need-two-to-requires (
-  add-reads.Asked,
-  add-reads.Learnt,
+  power-point-reads.Asked,
+  power-point-reads.Learnt,
   add-steps-below t,
   add-steps.Post,
   two-to-reads.Asked,
@@ -99,8 +111,8 @@ add-steps-two-to-requires : (t : ℕ) → add-steps-lts.Need-two-to-requires (
 add-steps-two-to-requires t c κs = search needs
 
 add-steps-add-points-requires : (t : ℕ) → add-steps-lts.Need-add-points-requires (
-  add-reads.Asked,
-  add-reads.Learnt,
+  power-point-reads.Asked,
+  power-point-reads.Learnt,
   add-steps-below t,
   add-steps.Post,
   two-to-reads.Asked,
@@ -118,8 +130,8 @@ add-steps-add-points-requires t c κs =
     (omega (arith, all, middle .kept .0, s .pre .1 .2), λ j h. middle .ensures .below j (omega (arith, half)), s .pre .1 .5)
 
 add-steps-same-length : (t : ℕ) → add-steps-lts.Need-same-length (
-  add-reads.Asked,
-  add-reads.Learnt,
+  power-point-reads.Asked,
+  power-point-reads.Learnt,
   add-steps-below t,
   add-steps.Post,
   two-to-reads.Asked,
@@ -130,8 +142,8 @@ add-steps-same-length : (t : ℕ) → add-steps-lts.Need-same-length (
 add-steps-same-length t c = search needs
 
 add-steps-returns-2 : (t : ℕ) → add-steps-lts.Need-returns-2 (
-  add-reads.Asked,
-  add-reads.Learnt,
+  power-point-reads.Asked,
+  power-point-reads.Learnt,
   add-steps-below t,
   add-steps.Post,
   two-to-reads.Asked,
@@ -143,15 +155,15 @@ add-steps-returns-2 t c =
     let s = c .before .before .before .before .before .before .before .before .before .before .before .before in
     let power = c .before .before .before .before .two-to in
     let middle = c .before .before .before .before .before .before .before .add-steps in
-    let twice = c .before .before .before .before .before .before .before .before .add in
+    let twice = c .before .before .before .before .before .before .before .before .power-point in
     let points = c .before .before .add-points in
     next-step (s .args .s) (power .result) (pointOf (s .args .step)) (pointOf (twice .result)) (s .args .level .now) (middle .last .0) (points .last .0) (omega arith) (s .pre .1 .1)
     (power .ensures) (twice .ensures .0) (middle .ensures) (points .ensures)
 
 pub +add-steps-spec : {M : Type 1} → statement M
 +add-steps-spec = close μ-add-steps λ t. add-steps-lts.spec (
-  add-reads.Asked,
-  add-reads.Learnt,
+  power-point-reads.Asked,
+  power-point-reads.Learnt,
   add-steps-below t,
   add-steps.Post,
   two-to-reads.Asked,
@@ -163,7 +175,8 @@ pub +add-steps-spec : {M : Type 1} → statement M
     add-steps.Post
     (add-steps-returns t)
     (add-steps-sub-add-steps t)
-    (add-steps-add-requires t)
+    (add-steps-sub-power-point t)
+    (add-steps-power-point-requires t)
     (add-steps-add-steps-requires t)
     (add-steps-two-to-requires t)
     (add-steps-add-points-requires t)

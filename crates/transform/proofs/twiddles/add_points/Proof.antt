@@ -40,8 +40,8 @@ mul-t15 c = search needs
 slice-read-t17 : tie.Need-slice-read-t17 Inv-loop μ-loop
 slice-read-t17 c = search needs
 
-add-requires : tie.Need-add-requires Inv-loop μ-loop
-add-requires c κs =
+add-step-requires : tie.Need-add-step-requires Inv-loop μ-loop
+add-step-requires c κs =
     let at = c .before .before .before in
     let p = at .before .before .pre in
     (source-below (at .loop .inv .1) (p .1) (c .before .before .loop-test .taken), p .2)
@@ -70,9 +70,9 @@ loop-less c = search needs
 loop-again : tie.Need-loop-again Inv-loop μ-loop
 loop-again c =
     let at = c .before .before .before .before in
-    let q = c .add .result in (
+    let q = c .add-step .result in (
       omega arith,
-      added-next (at .loop .inv .1) (q .x .0) (q .y .0) (at .before .before .pre .0) (c .before .before .before .loop-test .taken) (c .add .ensures .0),
+      added-next (at .loop .inv .1) (q .x .0) (q .y .0) (at .before .before .pre .0) (c .before .before .before .loop-test .taken) (c .add-step .ensures .0),
     )
 
 same-length : tie.Need-same-length Inv-loop μ-loop
@@ -96,7 +96,7 @@ add-points-spec =
     add-t14
     mul-t15
     slice-read-t17
-    add-requires
+    add-step-requires
     mul-level
     slice-write-level
     add-level

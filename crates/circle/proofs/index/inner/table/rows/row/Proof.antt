@@ -1,23 +1,10 @@
-use Prim.Native.Nat.{ℕ, zero, suc, zero-le, _≤_}
-use mathlib.Core.Path.{_≡_, sym, ap}
+use mathlib.Core.Path.{sym, ap}
 use native.Mathlib.Nat as N
-use native.Mathlib.Omega.{arith}
 use Rattle.algebra.specs.Circle.{multiple}
 use Rattle.circle.specs.Table.{run, windowsFrom, tableWords, tableRow}
+use Rattle.circle.proofs.Cases.{past-others}
 use Rattle.circle.proofs.index.inner.table.rows.row.Statement.{statement}
 use Rattle.circle.proofs.index.inner.table.rows.row.Tie as tie
-
--- k is none of the numbers below n
-abbrev Others : ℕ → ℕ → Type 0
-Others zero k = Unit
-Others (suc n) k = Others n k × ((k ≡ n) → ⊥)
-
-past : (k n : ℕ) → n ≤ k → ((k ≡ n) → ⊥) → suc n ≤ k
-past k n h e = omega (arith, e)
-
-past-others : (n k : ℕ) → Others n k → n ≤ k
-past-others zero k o = zero-le
-past-others (suc n) k o = past k n (past-others n k (o .0)) (o .1)
 
 -- the checker computes each row and compares it with the constant
 returns : tie.Need-returns
