@@ -13,12 +13,12 @@ use Rattle.column.specs.Column.{factor, product, sum, combination, value
 use Rattle.column.specs.Butterflies.{onHalves, butterflySum, butterflyDifference, evaluateBlock, inverseSum, inverseDifference, interpolateBlock, scaled, onTheWay}
 
 module _ {X Y : Type 0} (f : X → Y) where
-  map-take : (n : ℕ) (a : List X) → map f (take n a) ≡ take n (map f a)
+  pub map-take : (n : ℕ) (a : List X) → map f (take n a) ≡ take n (map f a)
   map-take zero a = refl
   map-take (suc n) [] = refl
   map-take (suc n) (x ∷ a) = ap (λ (r : List Y). f x ∷ r) (map-take n a)
 
-  map-drop : (n : ℕ) (a : List X) → map f (drop n a) ≡ drop n (map f a)
+  pub map-drop : (n : ℕ) (a : List X) → map f (drop n a) ≡ drop n (map f a)
   map-drop zero a = refl
   map-drop (suc n) [] = refl
   map-drop (suc n) (x ∷ a) = map-drop n a

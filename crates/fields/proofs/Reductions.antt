@@ -1,10 +1,10 @@
 -- The reductions modulo P by halves of 31 bits.
 use Prim.Native.Nat.{ℕ, zero, suc, _+_, _-_, _*_, _/_, _%_, _<_, _≤_}
-use mathlib.Core.Path.{_≡_, refl, _∙_, ap}
-use native.Mathlib.Nat.{mul-le-mul}
+use mathlib.Core.Path.{_≡_, refl, sym, _∙_, ap}
+use native.Mathlib.Nat as N
 use native.Mathlib.Decide.{decLt}
 use native.Mathlib.Omega.{arith}
-use Rattle.algebra.specs.M31.{P}
+use Rattle.algebra.specs.M31.{P, P-pos}
 use Rattle.fields.specs.Words.{negP, subP}
 
 -- a number below 2P, its bit 31 added to the others
@@ -23,11 +23,11 @@ fold s h = elim (decLt s P) [ yes l ↦ low l | no l ↦ high (omega arith) ]
         let m : s % P ≡ s - P = omega arith in
         rw (q, m) (omega arith)
 
-pub product-below : (a b : ℕ) → a < P → b < P → a * b < P * P
+-- a may be P
+pub product-below : (a b : ℕ) → a ≤ P → b < P → a * b < P * P
 product-below a b ha hb =
-    let la : a ≤ 2147483646 = omega arith in
     let lb : b ≤ 2147483646 = omega arith in
-    omega (arith, mul-le-mul la lb)
+    omega (arith, N.mul-le-mul ha lb)
 
 -- the bits from 31 on, added to those below
 pub halves : (v : ℕ) → (v % 2147483648 + v / 2147483648) % P ≡ v % P
@@ -41,17 +41,13 @@ doubled-halves p =
     rw (low, high)
 
 -- that product, from what a sum modulo 2^32 says of 2w
-pub doubled-product : (a w twice : ℕ) → a < P → w < P → twice ≡ (w + w) % 4294967296 → (a * twice ≡ 2 * (a * w)) × (2 * (a * w) < 2 * (P * P))
+pub doubled-product : (a w twice : ℕ) → a ≤ P → w < P → twice ≡ (w + w) % 4294967296 → (a * twice ≡ 2 * (a * w)) × (2 * (a * w) < 2 * (P * P))
 doubled-product a w twice ha hw e =
     let double : twice ≡ 2 * w = omega arith in
     (ap (λ (t : ℕ). a * t) double ∙ omega arith, omega (arith, product-below a w ha hw))
 
 pub halves-below : (p : ℕ) → p < P * P → p % 2147483648 + p / 2147483648 < 2 * P
 halves-below p h = omega arith
-
--- the bit 31 added to the others leaves at most P
-pub partly : (s : ℕ) → s < 2 * P → (s % 2147483648 + s / 2147483648 ≤ P) × ((s % 2147483648 + s / 2147483648) % P ≡ s % P)
-partly s h = (omega arith, halves s)
 
 -- the same twice: small enough to be folded
 pub halves-small : (v : ℕ) → v < 18446744073709551616
@@ -95,6 +91,31 @@ unwrap a b d ha hb hd e = elim (decLt a b) [ yes l ↦ wrapped l | no l ↦ plai
         let f : d ≡ a - b = omega arith in
         let q : d / 2147483648 ≡ 0 = omega arith in
         rw (q, subP-more a b l ha) (omega arith)
+
+small : (d : ℕ) → d ≤ P → (d - d / 2147483648) % 2147483648 ≡ d
+small d h =
+    let q : d / 2147483648 ≡ 0 = omega arith in
+    rw q (omega arith)
+
+from-P : (b : ℕ) → b ≤ P → subP P b ≡ (P - b) % P
+from-P b h = omega arith
+
+-- the same where a may be P
+pub unwrap-partly : (a b d : ℕ) → a ≤ P → b ≤ P → d < 4294967296 → (d + b) % 4294967296 ≡ a
+    → ((d - d / 2147483648) % 2147483648 % P ≡ subP a b) × ((d - d / 2147483648) % 2147483648 ≤ P) × (a < P → (d - d / 2147483648) % 2147483648 < P)
+unwrap-partly a b d ha hb hd e = elim (decLt a P) [ yes l ↦ below l | no g ↦ top (omega arith) ]
+  where
+    below : a < P → ((d - d / 2147483648) % 2147483648 % P ≡ subP a b) × ((d - d / 2147483648) % 2147483648 ≤ P) × (a < P → (d - d / 2147483648) % 2147483648 < P)
+    below l =
+        let is = unwrap a b d l hb hd e in
+        let less : subP a b < P = N.mod-lt _ P-pos in
+        (ap (λ (t : ℕ). t % P) is ∙ N.mod-eq-of-lt less, omega arith, λ h. rw is less)
+
+    top : a ≡ P → ((d - d / 2147483648) % 2147483648 % P ≡ subP a b) × ((d - d / 2147483648) % 2147483648 ≤ P) × (a < P → (d - d / 2147483648) % 2147483648 < P)
+    top q =
+        let f : d ≡ P - b = omega arith in
+        let r : (d - d / 2147483648) % 2147483648 ≡ d = small d (omega arith) in
+        (ap (λ (t : ℕ). t % P) (r ∙ f) ∙ sym (from-P b hb) ∙ ap (λ (t : ℕ). subP t b) (sym q), omega arith, λ h. absurd (omega arith))
 
 -- 2P - (n + 1) is the negative of n + 1
 pub two-P-less : (n : ℕ) → n < 2147483648 → (4294967293 - n) % P ≡ negP (suc n)

@@ -1,14 +1,15 @@
 -- A column in the middle of a loop over its blocks: b of them are rewritten.
 use Prim.Native.Nat.{ℕ, suc, _+_, _-_, _*_, _<_, _≤_}
-use mathlib.Core.Path.{_≡_, refl, sym, _∙_, ap, ap₂}
+use mathlib.Core.Path.{_≡_, refl, sym, _∙_, ap, ap₂, subst}
 use mathlib.Core.List.{List, _++_}
 use native.Mathlib.Nat as N
 use native.Mathlib.Omega.{arith}
 use lib.ListN.{length, take, drop, length-drop}
-use lib.Seq.{length-take-le}
+use lib.Seq.{length-take-le, take-append-add, take-at}
 use Rattle.column.specs.Blocks.{blocks, Keeps, blocks-length, blocks-next}
-use Rattle.transform.specs.Tree.{Words}
-use Rattle.transform.proofs.WordLaws.{words-take, words-drop, words-blocks}
+use Rattle.transform.specs.Tree.{Words, PartlyReduced, reducedWords}
+use Rattle.transform.proofs.WordLaws.{words-append, words-take, words-drop, words-blocks}
+use Rattle.transform.proofs.Partly.{partly-take, partly-drop, partly-spliced, reduced-length, reduced-part, reduced-spliced}
 
 -- F on the blocks of w words of c, from number i on, count of them
 module _ (count w : ℕ) (F : ℕ → List ℕ → List ℕ) (i : ℕ) (c : List ℕ) where
@@ -60,3 +61,50 @@ module _ (count w : ℕ) (F : ℕ → List ℕ → List ℕ) (i : ℕ) (c : List
             ∙ ap₂ (λ (s n : ℕ). take s column ++ (F (i + b) (take n (drop s column)) ++ drop n (drop s column))) es width
             ∙ ap (λ (l : List ℕ). take (b * w) l ++ (F (i + b) (take w (drop (b * w) l)) ++ drop w (drop (b * w) l))) (t .is)
             ∙ blocks-next b w F keeps i c room ∙ ap (λ (n : ℕ). blocks n w F i c) (sym more)
+
+-- the same on what partly reduced words stand for
+module _ (count w : ℕ) (F : ℕ → List ℕ → List ℕ) (i : ℕ) (c : List ℕ) where
+  pub record PartlyTurn (b : ℕ) (column : List ℕ) : Type 0 where
+    pub turn : Turn count w F i (reducedWords c) b (reducedWords column)
+    pub partly : PartlyReduced column
+
+  pub partly-start : PartlyReduced c → PartlyTurn 0 c
+  partly-start p = record { turn = turn-start count w F i (reducedWords c); partly = p }
+
+  pub partly-same : (b : ℕ) (column : List ℕ) → PartlyTurn b column → length column ≡ length c
+  partly-same b column t = sym (reduced-length column) ∙ t .turn .same ∙ reduced-length c
+
+  module _ (size : length c ≡ count * w) (b : ℕ) (column : List ℕ) (t : PartlyTurn b column) (h : b < count) (start end : ℕ) (es : start ≡ b * w) (ee : end ≡ start + w) where
+    whole : length (reducedWords c) ≡ count * w
+    whole = reduced-length c ∙ size
+
+    pub partly-inside : (end ≤ length column) × (length column ≡ length c)
+    partly-inside =
+        (omega (arith, inside count w F i (reducedWords c) whole b (reducedWords column) (t .turn) h start end es ee, reduced-length column), partly-same b column t)
+
+    pub partly-part-length : length (take (end - start) (drop start column)) ≡ w
+    partly-part-length =
+        sym (reduced-length (take (end - start) (drop start column))) ∙ ap length (reduced-part (end - start) start column)
+        ∙ part-length count w F i (reducedWords c) whole b (reducedWords column) (t .turn) h start end es ee
+
+    pub partly-part : PartlyReduced (take (end - start) (drop start column))
+    partly-part = partly-take (end - start) (drop start column) (partly-drop start column (t .partly))
+
+    pub partly-next : Keeps w F → (q : List ℕ) → reducedWords q ≡ F (i + b) (reducedWords (take (end - start) (drop start column))) → PartlyReduced q
+        → PartlyTurn (b + 1) (take start column ++ (q ++ drop (end - start) (drop start column)))
+    partly-next keeps q e p = record {
+      turn = subst (Turn count w F i (reducedWords c) (b + 1)) (sym (reduced-spliced start (end - start) column q))
+          (turn-next count w F i (reducedWords c) whole b (reducedWords column) (t .turn) h start end es ee keeps (reducedWords q)
+          (e ∙ ap (F (i + b)) (reduced-part (end - start) start column)));
+      partly = partly-spliced start (end - start) column q (t .partly) p;
+    }
+
+-- words below P stay so where a part of m words after the first n is rewritten by such words
+pub spliced-prefix : (column q rest : List ℕ) (n m s : ℕ) → n ≤ length column → length q ≡ m → s ≡ n + m → Words (take n column) → Words q
+    → Words (take s (take n column ++ (q ++ rest)))
+spliced-prefix column q rest n m s h e es wc wq =
+    let first : length (take n column) ≡ n = length-take-le n column h in
+    let at : s ≡ length (take n column) + m = omega arith in
+    let is : take s (take n column ++ (q ++ rest)) ≡ take n column ++ q =
+    ap (λ (k : ℕ). take k (take n column ++ (q ++ rest))) at ∙ take-append-add (take n column) (q ++ rest) m ∙ ap (λ (l : List ℕ). take n column ++ l) (take-at q rest m e) in
+    λ k. rw is (words-append (take n column) q wc wq k)

@@ -5,8 +5,9 @@ use mathlib.Core.List.{List, _++_, append-nil}
 use native.Mathlib.Omega.{arith}
 use lib.ListN.{length, take, drop, length-append, length-drop, drop-of-length-le}
 use lib.Seq.{length-take-le, take-at, drop-at, take-all}
-use Rattle.transform.specs.Tree.{Words}
+use Rattle.transform.specs.Tree.{Words, PartlyReduced}
 use Rattle.transform.proofs.WordLaws.{words-append, words-take, words-drop}
+use Rattle.transform.proofs.Partly.{partly-drop}
 
 module _ (l : List ℕ) (e : length l ≡ 8) where
   pub first-length : length (take (4 - 0) (drop 0 l)) ≡ 4
@@ -28,6 +29,9 @@ module _ (l : List ℕ) (e : length l ≡ 8) where
 
     pub second-words : Words l → Words (take (8 - 4) (drop 4 middle))
     second-words w k = rw second (words-drop 4 l w k)
+
+    pub second-partly : PartlyReduced l → PartlyReduced (take (8 - 4) (drop 4 middle))
+    second-partly p k = rw second (partly-drop 4 l p k)
 
     pub both-parts : (f g : List ℕ → List ℕ) (r : List ℕ) → q ≡ f (take (4 - 0) (drop 0 l)) → r ≡ g (take (8 - 4) (drop 4 middle))
         → take 4 middle ++ (r ++ drop (8 - 4) (drop 4 middle)) ≡ f (take 4 l) ++ g (drop 4 l)

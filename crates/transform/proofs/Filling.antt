@@ -19,7 +19,7 @@ use Rattle.domains.specs.BitReversed.{halfIndex, halfPoint, half-further, half-
 use Rattle.domains.specs.Doubled.{half-double-x}
 use Rattle.transform.specs.Tree.{LinesFrom, LineTree, pointAt, Points, Extended, Doubled}
 use Rattle.transform.specs.Twiddles.{even-or-odd}
-use Rattle.transform.proofs.WordLaws.{add-partly, sub-partly}
+use Rattle.transform.proofs.Partly.{add-partly, sub-partly}
 use Rattle.transform.proofs.Pairs.{written, written-length, written-first, written-second, written-below}
 
 -- ---- a sum of points by their words, where two of the products are partly reduced

@@ -1,16 +1,18 @@
 -- Two layers on four words.
-use Prim.Native.Nat.{ℕ, _+_, _*_}
-use mathlib.Core.Path.{_≡_, refl, sym, _∙_, ap}
+use Prim.Native.Nat.{ℕ, _+_, _-_, _*_, _%_}
+use mathlib.Core.Path.{_≡_, refl, sym, _∙_, ap, ap₂}
 use mathlib.Core.List.{List, [], _∷_, _++_, zipWith}
+use native.Mathlib.Nat as N
 use native.Mathlib.Omega.{arith}
 use lib.ListN.{length, getD, set, take, drop}
 use Rattle.algebra.specs.Polynomial.{_:+_, _:*_, :-_, v0, v1, v2}
-use Rattle.algebra.specs.M31.{m31}
-use Rattle.fields.specs.Words.{negP, words31}
+use Rattle.algebra.specs.M31.{P, m31}
+use Rattle.fields.specs.Words.{addP, subP, mulP, negP, words31}
 use Rattle.fields.specs.Representation.{solveWords}
 use Rattle.fields.specs.Inverse.{m31-representation}
 use Rattle.column.specs.Butterflies.{onHalves, butterflySum, butterflyDifference, evaluateBlock, inverseSum, inverseDifference, interpolateBlock}
-use Rattle.transform.specs.Tree.{pairTwiddle}
+use Rattle.transform.specs.Tree.{pairTwiddle, reducedWords}
+use Rattle.transform.proofs.Partly.{reduced-at, partly-sum, partly-difference}
 
 -- a butterfly with the negative of a twiddle: its results change places
 sum-negative : (v x y : ℕ) → butterflySum words31 (negP v) x y ≡ butterflyDifference words31 v x y
@@ -61,6 +63,26 @@ lowerDifference w l = butterflyDifference words31 w (getD l 0 0) (getD l 2 0)
 abbrev pub upperDifference : ℕ → List ℕ → ℕ
 upperDifference w l = butterflyDifference words31 w (getD l 1 0) (getD l 3 0)
 
+-- from partly reduced words, of which the first one is reduced to a before the sum
+module _ (w : ℕ) (l : List ℕ) where
+  module _ (a c : ℕ) (ea : a ≡ getD l 0 0 % P) (ec : c % P ≡ mulP (getD l 2 0) w) where
+    pub lower-sum : (r : ℕ) → r ≡ addP a c → r ≡ lowerSum w (reducedWords l)
+    lower-sum r e =
+        partly-sum w (getD l 0 0) (getD l 2 0) c ec r (e ∙ ap (λ (t : ℕ). addP t c) ea ∙ N.mod-add-mod (getD l 0 0) P c)
+        ∙ ap₂ (butterflySum words31 w) (sym (reduced-at l 0)) (sym (reduced-at l 2))
+
+    pub lower-difference : (r : ℕ) → r ≡ subP a c → r ≡ lowerDifference w (reducedWords l)
+    lower-difference r e =
+        partly-difference w (getD l 0 0) (getD l 2 0) c ec r (e ∙ ap (λ (t : ℕ). subP t c) ea ∙ N.mod-add-mod (getD l 0 0) P ((P - c % P) % P))
+        ∙ ap₂ (butterflyDifference words31 w) (sym (reduced-at l 0)) (sym (reduced-at l 2))
+
+  module _ (d : ℕ) (ed : d % P ≡ mulP (getD l 3 0) w) where
+    pub upper-sum : (r : ℕ) → r ≡ addP (getD l 1 0) d → r ≡ upperSum w (reducedWords l)
+    upper-sum r e = partly-sum w (getD l 1 0) (getD l 3 0) d ed r e ∙ ap₂ (butterflySum words31 w) (sym (reduced-at l 1)) (sym (reduced-at l 3))
+
+    pub upper-difference : (r : ℕ) → r ≡ subP (getD l 1 0) d → r ≡ upperDifference w (reducedWords l)
+    upper-difference r e = partly-difference w (getD l 1 0) (getD l 3 0) d ed r e ∙ ap₂ (butterflyDifference words31 w) (sym (reduced-at l 1)) (sym (reduced-at l 3))
+
 evaluate-four : (w v u : ℕ) (l : List ℕ) → length l ≡ 4
     → evaluateBlock words31 2 (pairTwiddle w v u) 0 l
     ≡ butterflySum words31 v (lowerSum w l) (upperSum w l) ∷ butterflyDifference words31 v (lowerSum w l) (upperSum w l)
@@ -79,20 +101,21 @@ evaluate-two-layers tw tv i j e f g l = λ k. layered (e k) (f k) (g k)
         (onHalves (butterflySum words31 v) 1 (onHalves (butterflySum words31 w) 2 l) ++ onHalves (butterflyDifference words31 v) 1 (onHalves (butterflySum words31 w) 2 l))
         ++ (onHalves (butterflySum words31 u) 1 (onHalves (butterflyDifference words31 w) 2 l) ++ onHalves (butterflyDifference words31 u) 1 (onHalves (butterflyDifference words31 w) 2 l))
 
-module _ (w v : ℕ) (l : List ℕ) (e : length l ≡ 4) (r0 r1 r2 r3 : ℕ) where
+-- four words below P, written over those that stand for l
+module _ (w v : ℕ) (block l : List ℕ) (size : length block ≡ 4) (e : length l ≡ 4) (r0 r1 r2 r3 : ℕ) where
   pub four-evaluated : r0 ≡ butterflySum words31 v (lowerSum w l) (upperSum w l) → r1 ≡ butterflyDifference words31 v (lowerSum w l) (upperSum w l)
       → r2 ≡ butterflyDifference words31 v (lowerDifference w l) (upperDifference w l) → r3 ≡ butterflySum words31 v (lowerDifference w l) (upperDifference w l)
-      → set (set (set (set l 0 r0) 1 r1) 2 r2) 3 r3 ≡ evaluateBlock words31 2 (pairTwiddle w v (negP v)) 0 l
+      → set (set (set (set block 0 r0) 1 r1) 2 r2) 3 r3 ≡ evaluateBlock words31 2 (pairTwiddle w v (negP v)) 0 l
   four-evaluated e0 e1 e2 e3 =
-      written l e r0 r1 r2 r3
+      written block size r0 r1 r2 r3
       ∙ four-equal e0 e1 (e2 ∙ sym (sum-negative v (lowerDifference w l) (upperDifference w l))) (e3 ∙ sym (difference-negative v (lowerDifference w l) (upperDifference w l)))
       ∙ sym (evaluate-four w v (negP v) l e)
 
   pub turned-evaluated : r0 ≡ butterflyDifference words31 v (lowerSum w l) (upperSum w l) → r1 ≡ butterflySum words31 v (lowerSum w l) (upperSum w l)
       → r2 ≡ butterflySum words31 v (lowerDifference w l) (upperDifference w l) → r3 ≡ butterflyDifference words31 v (lowerDifference w l) (upperDifference w l)
-      → set (set (set (set l 0 r0) 1 r1) 2 r2) 3 r3 ≡ evaluateBlock words31 2 (pairTwiddle w (negP v) v) 0 l
+      → set (set (set (set block 0 r0) 1 r1) 2 r2) 3 r3 ≡ evaluateBlock words31 2 (pairTwiddle w (negP v) v) 0 l
   turned-evaluated e0 e1 e2 e3 =
-      written l e r0 r1 r2 r3
+      written block size r0 r1 r2 r3
       ∙ four-equal (e0 ∙ sym (sum-negative v (lowerSum w l) (upperSum w l))) (e1 ∙ sym (difference-negative v (lowerSum w l) (upperSum w l))) e2 e3
       ∙ sym (evaluate-four w (negP v) v l e)
 

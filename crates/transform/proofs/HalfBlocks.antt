@@ -1,6 +1,6 @@
 -- A block of 2^k words below node i by its halves, below the nodes 2i and 2i + 1.
 use Prim.Native.Nat.{ℕ, suc, _+_, _-_, _*_, _/_, _^_, _≤_, _<_}
-use mathlib.Core.Path.{_≡_, sym, _∙_, ap, ap₂}
+use mathlib.Core.Path.{_≡_, sym, _∙_, ap, ap₂, subst}
 use mathlib.Core.List.{List, _++_, append-nil}
 use native.Mathlib.Nat as N
 use native.Mathlib.Omega.{arith}
@@ -11,8 +11,9 @@ use Rattle.fields.specs.Words.{words31}
 use Rattle.column.specs.Butterflies.{butterflies, evaluateBlock, inverseButterflies, interpolateBlock, scaled}
 use Rattle.column.specs.Inverse.{interpolate-length, scaled-length, scaled-append}
 use Rattle.column.specs.Blocks.{butterflies-length, twoBlocks, layer-block, inverse-block}
-use Rattle.transform.specs.Tree.{Words, nodeTwiddle, Block}
-use Rattle.transform.proofs.WordLaws.{words-append, words-take, words-drop, words-butterflies, words-scaled}
+use Rattle.transform.specs.Tree.{Words, PartlyReduced, reducedWords, nodeTwiddle, Block}
+use Rattle.transform.proofs.WordLaws.{words-append, words-take, words-drop, words-scaled}
+use Rattle.transform.proofs.Partly.{partly-take, partly-drop, reduced-length, reduced-below, reduced-take, reduced-drop}
 use Rattle.transform.proofs.Layers.{line-node}
 use Rattle.transform.proofs.Scaling.{butterflies-multiple}
 
@@ -88,29 +89,34 @@ module _ (c tree : List ℕ) (i k : ℕ) (b : Block c tree i k) (big : 14 < k) (
 
   -- ---- evaluation: the butterflies, then the halves
 
-  module _ (column : List ℕ) (is : column ≡ butterflies words31 half (getD tree i 0) c) where
+  module _ (column : List ℕ) (is : reducedWords column ≡ butterflies words31 half (getD tree i 0) c) (partly : PartlyReduced column) where
     pub column-size : length column ≡ half + half
-    column-size = ap length is ∙ butterflies-length words31 half (getD tree i 0) c halves-size
+    column-size = sym (reduced-length column) ∙ ap length is ∙ butterflies-length words31 half (getD tree i 0) c halves-size
 
-    pub column-words : Words column
-    column-words q = rw is (words-butterflies half (getD tree i 0) c q)
+    partly-block : (d : List ℕ) (j : ℕ) → j ≤ 2 * i + 1 → length d ≡ half → PartlyReduced d → Block (reducedWords d) tree j (k - 1) × PartlyReduced d
+    partly-block d j h e p = (half-block (reducedWords d) j h (reduced-length d ∙ e) (reduced-below d), p)
 
-    pub first-block : Block (take half column) tree (2 * i) (k - 1)
-    first-block = half-block (take half column) (2 * i) (omega arith) (lower-length column half column-size) (words-take half column column-words)
+    pub first-block : Block (reducedWords (take half column)) tree (2 * i) (k - 1) × PartlyReduced (take half column)
+    first-block = partly-block (take half column) (2 * i) (omega arith) (lower-length column half column-size) (partly-take half column partly)
 
     module _ (p : List ℕ) (same : length p ≡ length (take half column)) where
-      pub second-block : Block (take (length (middle column half column-size p same) - half) (drop half (middle column half column-size p same))) tree (2 * i + 1) (k - 1)
-      second-block =
-          rw (upper-part column half column-size p same)
-          (half-block (drop half column) (2 * i + 1) (omega arith) (upper-length column half column-size) (words-drop half column column-words))
+      abbrev upper : List ℕ
+      upper = take (length (middle column half column-size p same) - half) (drop half (middle column half column-size p same))
 
-      pub block-evaluated : (q : List ℕ) → p ≡ evaluateBlock words31 (k - 1) (nodeTwiddle tree) (2 * i) (take half column)
-          → q ≡ evaluateBlock words31 (k - 1) (nodeTwiddle tree) (2 * i + 1) (take (length (middle column half column-size p same) - half) (drop half (middle column half column-size p same)))
+      pub second-block : Block (reducedWords upper) tree (2 * i + 1) (k - 1) × PartlyReduced upper
+      second-block =
+          subst (λ (d : List ℕ). Block (reducedWords d) tree (2 * i + 1) (k - 1) × PartlyReduced d) (sym (upper-part column half column-size p same))
+          (partly-block (drop half column) (2 * i + 1) (omega arith) (upper-length column half column-size) (partly-drop half column partly))
+
+      pub block-evaluated : (q : List ℕ) → p ≡ evaluateBlock words31 (k - 1) (nodeTwiddle tree) (2 * i) (reducedWords (take half column))
+          → q ≡ evaluateBlock words31 (k - 1) (nodeTwiddle tree) (2 * i + 1) (reducedWords upper)
           → take half (middle column half column-size p same) ++ (q ++ drop (length (middle column half column-size p same) - half) (drop half (middle column half column-size p same)))
           ≡ evaluateBlock words31 k (nodeTwiddle tree) i c
       block-evaluated q ep eq =
           both-halves column half column-size p same q
-          ∙ ap₂ _++_ ep (eq ∙ ap (evaluateBlock words31 (k - 1) (nodeTwiddle tree) (2 * i + 1)) (upper-part column half column-size p same))
+          ∙ ap₂ _++_ (ep ∙ ap (evaluateBlock words31 (k - 1) (nodeTwiddle tree) (2 * i)) (reduced-take half column))
+          (eq ∙ ap (λ (d : List ℕ). evaluateBlock words31 (k - 1) (nodeTwiddle tree) (2 * i + 1) (reducedWords d)) (upper-part column half column-size p same)
+          ∙ ap (evaluateBlock words31 (k - 1) (nodeTwiddle tree) (2 * i + 1)) (reduced-drop half column))
           ∙ ap (twoBlocks half (evaluateBlock words31 (k - 1) (nodeTwiddle tree)) i) is
           ∙ ap₂ (λ (h w : ℕ). twoBlocks h (evaluateBlock words31 (k - 1) (nodeTwiddle tree)) i (butterflies words31 h w c)) half-power (line-node tree (k - 1) i (omega arith))
           ∙ layer-block words31 (nodeTwiddle tree) (k - 1) i c (b .size ∙ power)

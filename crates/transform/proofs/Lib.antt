@@ -1,6 +1,7 @@
 -- Laws that the proofs of several functions cite.
 pub mod Halves
 pub mod WordLaws
+pub mod Partly
 pub mod Fours
 pub mod BlockLoops
 pub mod Eights

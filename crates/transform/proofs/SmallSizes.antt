@@ -1,8 +1,9 @@
 -- Log sizes 1 and 2: y is -1 there, or -x.
-use Prim.Native.Nat.{ℕ, zero, suc, _+_, _-_, _*_, _^_, _<_}
+use Prim.Native.Nat.{ℕ, zero, suc, _+_, _-_, _*_, _%_, _^_, _<_}
 use mathlib.Core.Path.{_≡_, refl, sym, _∙_, ap}
 use mathlib.Core.List.{List, [], _∷_}
 use native.Mathlib.Omega.{arith}
+use lib.ListN.{length, getD, set}
 use Rattle.algebra.specs.Ring.{two}
 use Rattle.algebra.specs.Polynomial.{_:+_, _:*_, exprs, v0}
 use Rattle.algebra.specs.M31.{P, m31}
@@ -16,7 +17,7 @@ use Rattle.domains.specs.Doubled.{half-two}
 use Rattle.column.specs.Butterflies.{butterflies, evaluateBlock, inverseButterflies, interpolateBlock, scaled}
 use Rattle.column.specs.Tree.{Holds}
 use Rattle.transform.specs.Transform.{valuesOf, Column}
-use Rattle.transform.specs.Tree.{pairTwiddle, Unscaled}
+use Rattle.transform.specs.Tree.{reducedWords, pairTwiddle, Unscaled}
 use Rattle.transform.specs.Twiddles.{twiddle}
 use Rattle.transform.specs.Elements.{column-words, tree-values, tree-coefficients}
 use Rattle.transform.specs.TreeLaws.{neg-neg, signs, holds-inverse, root-square}
@@ -33,6 +34,13 @@ two-holds (suc t) d e i h = absurd (omega arith)
 as-block : (tw : ℕ → ℕ → ℕ) (i : ℕ) (c : List ℕ) → butterflies words31 1 (tw 0 i) c ≡ evaluateBlock words31 1 tw i c
 unfolding butterflies evaluateBlock
 as-block tw i c = refl
+
+-- two words, each reduced
+pub two-reduced : (l : List ℕ) → length l ≡ 2 → (a b : ℕ) → a ≡ getD l 0 0 % P → b ≡ getD l 1 0 % P → set (set l 0 a) 1 b ≡ reducedWords l
+two-reduced [] e a b ea eb = absurd (omega arith)
+two-reduced (x ∷ []) e a b ea eb = absurd (omega arith)
+two-reduced (x ∷ y ∷ []) e a b ea eb = λ i. ea i ∷ eb i ∷ []
+two-reduced (x ∷ y ∷ z ∷ l) e a b ea eb = absurd (omega arith)
 
 pub two-evaluated : (c r : List ℕ) → Column 1 c → r ≡ butterflies words31 1 (P - 1) c → r ≡ valuesOf 1 c
 two-evaluated c r h e =

@@ -9,10 +9,11 @@ use lib.Seq.{take-at, drop-append-add, drop-drop, length-take-le}
 use Rattle.fields.specs.Words.{words31}
 use Rattle.column.specs.Butterflies.{evaluateBlock, interpolateBlock, scaled}
 use Rattle.transform.specs.Transform.{valuesOf, Column, Coefficients}
-use Rattle.transform.specs.Tree.{Words, LineTree, nodeTwiddle, Inverted, Block}
+use Rattle.transform.specs.Tree.{Words, PartlyReduced, reducedWords, LineTree, nodeTwiddle, Inverted, Block}
 use Rattle.transform.specs.Elements.{column-words, tree-values, tree-coefficients}
 use Rattle.transform.specs.TreeLaws.{tree-holds, inverse-holds}
 use Rattle.transform.proofs.WordLaws.{words-evaluate, words-scaled}
+use Rattle.transform.proofs.Partly.{partly-words, reduced-same}
 
 -- a column of a log size that is known
 pub column-of : (n m : ℕ) (c : List ℕ) → n ≡ m → Column n c → Column m c
@@ -68,9 +69,15 @@ module _ (n : ℕ) (column scratch : List ℕ) (lo : 3 ≤ n) (hi : n ≤ 30) (h
       twiddles = λ k. rw tree-taken (w k);
     }
 
-    pub column-evaluated : LineTree n tree → (exit : List ℕ) → exit ≡ evaluateBlock words31 n (nodeTwiddle (take half filled)) 1 column → exit ≡ valuesOf n column
+    stands : reducedWords column ≡ column
+    stands = reduced-same column (column-words n column h)
+
+    pub evaluation-block : Words tree → Block (reducedWords column) (take half filled) 1 n × PartlyReduced column
+    evaluation-block w = (subst (λ (c : List ℕ). Block c (take half filled) 1 n) (sym stands) (root-block w), partly-words column (column-words n column h))
+
+    pub column-evaluated : LineTree n tree → (exit : List ℕ) → exit ≡ evaluateBlock words31 n (nodeTwiddle (take half filled)) 1 (reducedWords column) → exit ≡ valuesOf n column
     column-evaluated t exit e =
-        e ∙ ap (λ (l : List ℕ). evaluateBlock words31 n (nodeTwiddle l) 1 column) tree-taken
+        e ∙ ap (evaluateBlock words31 n (nodeTwiddle (take half filled)) 1) stands ∙ ap (λ (l : List ℕ). evaluateBlock words31 n (nodeTwiddle l) 1 column) tree-taken
         ∙ tree-values n (omega arith) hi (nodeTwiddle tree) (tree-holds n tree lo hi t) column (h .size) (words-evaluate n (nodeTwiddle tree) 1 column (column-words n column h))
 
     -- with the inverses of a tree's twiddles: 2^n times the coefficients

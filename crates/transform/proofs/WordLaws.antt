@@ -3,28 +3,49 @@ use Prim.Native.Nat.{ℕ, zero, suc, _+_, _-_, _*_, _%_, _^_, _<_}
 use mathlib.Core.Path.{_≡_, sym, _∙_, ap}
 use mathlib.Core.List.{List, [], _∷_, _++_, zipWith}
 use native.Mathlib.Nat as N
-use lib.ListN.{take, drop}
+use lib.ListN.{getD, take, drop, set}
 use lib.Seq.{getD-drop}
 use Rattle.algebra.specs.M31.{P, P-pos}
-use Rattle.fields.specs.Words.{addP, subP, mulP, words31}
+use Rattle.fields.specs.Words.{words31}
 use Rattle.fields.specs.Inverse.{m31-representation}
 use Rattle.column.specs.Butterflies.{onHalves, butterflySum, butterflyDifference, butterflies, evaluateBlock, inverseSum, inverseDifference, inverseButterflies, interpolateBlock, scaled}
 use Rattle.column.specs.Blocks.{blocks}
 use Rattle.transform.specs.Tree.{Words}
 
-pub words-append : (a b : List ℕ) → Words a → Words b → Words (a ++ b)
-words-append [] b wa wb k = wb k
-words-append (x ∷ a) b wa wb zero = wa 0
-words-append (x ∷ a) b wa wb (suc k) = words-append a b (λ j. wa (suc j)) wb k
+-- a property of each word; past the end stands 0
+module _ (C : ℕ → Type 0) (none : C 0) where
+  abbrev Each : List ℕ → Type 0
+  Each l = (k : ℕ) → C (getD l k 0)
 
-pub words-take : (n : ℕ) (a : List ℕ) → Words a → Words (take n a)
-words-take zero a wa k = P-pos
-words-take (suc n) [] wa k = P-pos
-words-take (suc n) (x ∷ a) wa zero = wa 0
-words-take (suc n) (x ∷ a) wa (suc k) = words-take n a (λ j. wa (suc j)) k
+  pub each-append : (a b : List ℕ) → Each a → Each b → Each (a ++ b)
+  each-append [] b wa wb k = wb k
+  each-append (x ∷ a) b wa wb zero = wa 0
+  each-append (x ∷ a) b wa wb (suc k) = each-append a b (λ j. wa (suc j)) wb k
 
-pub words-drop : (n : ℕ) (a : List ℕ) → Words a → Words (drop n a)
-words-drop n a wa k = rw (getD-drop n a k 0) (wa (n + k))
+  pub each-take : (n : ℕ) (a : List ℕ) → Each a → Each (take n a)
+  each-take zero a wa k = none
+  each-take (suc n) [] wa k = none
+  each-take (suc n) (x ∷ a) wa zero = wa 0
+  each-take (suc n) (x ∷ a) wa (suc k) = each-take n a (λ j. wa (suc j)) k
+
+  pub each-drop : (n : ℕ) (a : List ℕ) → Each a → Each (drop n a)
+  each-drop n a wa k = rw (getD-drop n a k 0) (wa (n + k))
+
+  pub each-set : (l : List ℕ) (i w : ℕ) → Each l → C w → Each (set l i w)
+  each-set [] i w wl cw k = wl k
+  each-set (x ∷ l) zero w wl cw zero = cw
+  each-set (x ∷ l) zero w wl cw (suc k) = wl (suc k)
+  each-set (x ∷ l) (suc i) w wl cw zero = wl 0
+  each-set (x ∷ l) (suc i) w wl cw (suc k) = each-set l i w (λ j. wl (suc j)) cw k
+
+abbrev pub words-append : (a b : List ℕ) → Words a → Words b → Words (a ++ b)
+words-append = each-append (λ (w : ℕ). w < P) P-pos
+
+abbrev pub words-take : (n : ℕ) (a : List ℕ) → Words a → Words (take n a)
+words-take = each-take (λ (w : ℕ). w < P) P-pos
+
+abbrev pub words-drop : (n : ℕ) (a : List ℕ) → Words a → Words (drop n a)
+words-drop = each-drop (λ (w : ℕ). w < P) P-pos
 
 words-zip : (f : ℕ → ℕ → ℕ) → ((x y : ℕ) → f x y < P) → (a b : List ℕ) → Words (zipWith f a b)
 unfolding zipWith
@@ -94,20 +115,3 @@ unfolding blocks
 words-blocks zero w F h i c wc = wc
 words-blocks (suc count) w F h i c wc =
     words-append (F i (take w c)) (blocks count w F (i + 1) (drop w c)) (h i (take w c) (words-take w c wc)) (words-blocks count w F h (i + 1) (drop w c) (words-drop w c wc))
-
--- ---- sums and differences with a number that is reduced only by them
-
-pub add-partly : (u v m : ℕ) → v % P ≡ m → addP u v ≡ addP u m
-add-partly u v m e = sym (N.add-mod-mod u v P) ∙ ap (λ (t : ℕ). (u + t) % P) e
-
-pub sub-partly : (u v m : ℕ) → v % P ≡ m → subP u v ≡ subP u m
-sub-partly u v m e = ap (λ (t : ℕ). (u + (P - t) % P) % P) (sym (N.mod-mod v P) ∙ ap (λ (t : ℕ). t % P) e)
-
--- a butterfly by its partly reduced product
-pub partly-sum : (w x y v r : ℕ) → v % P ≡ mulP y w → r ≡ addP x v → r ≡ butterflySum words31 w x y
-unfolding butterflySum
-partly-sum w x y v r e f = f ∙ add-partly x v (mulP y w) e
-
-pub partly-difference : (w x y v r : ℕ) → v % P ≡ mulP y w → r ≡ subP x v → r ≡ butterflyDifference words31 w x y
-unfolding butterflyDifference
-partly-difference w x y v r e f = f ∙ sub-partly x v (mulP y w) e

@@ -2,7 +2,7 @@
 use Prim.Native.Nat.{ℕ, zero, suc, _+_, _-_, _*_, _/_, _%_, _^_, _≤_, _<_}
 use mathlib.Core.Path.{_≡_}
 use mathlib.Core.Bool.{cond}
-use mathlib.Core.List.{List, _++_}
+use mathlib.Core.List.{List, _++_, map}
 use lib.Dec.{eqb}
 use lib.ListN.{length, getD, take, drop}
 use Rattle.algebra.specs.M31.{P}
@@ -16,6 +16,14 @@ use Rattle.transform.specs.Transform.{Coefficients}
 -- each word is below P; past the end stands 0
 abbrev pub Words : List ℕ → Type 0
 Words l = (k : ℕ) → getD l k 0 < P
+
+-- Evaluation reduces the words between its layers only so far that each is at most P, which stands for 0.
+abbrev pub PartlyReduced : List ℕ → Type 0
+PartlyReduced l = (k : ℕ) → getD l k 0 ≤ P
+
+-- the words that they stand for
+abbrev pub reducedWords : List ℕ → List ℕ
+reducedWords l = map (λ (w : ℕ). w % P) l
 
 -- The levels from m on of the tree of log size n: node 2^k + b, for b below 2^k, holds the x of half coset point 2b of log size
 -- k + 2, in bit-reversed order. Its children hold x and y of one point, which doubles to it.

@@ -7,59 +7,65 @@ ghost use Rattle.fields.specs.Words.{negP, words31};
 ghost use Rattle.column.specs.Butterflies.{butterflies, evaluateBlock};
 ghost use Rattle.column.specs.Blocks.{blocks};
 ghost use Rattle.transform.specs.Transform.{valuesOf, Column};
-ghost use Rattle.transform.specs.Tree.{Words, nodeTwiddle, pairTwiddle, evaluateEight, Block};
+ghost use Rattle.transform.specs.Tree.{Words, PartlyReduced, reducedWords, nodeTwiddle, pairTwiddle, evaluateEight, Block};
 use crate::twiddles;
 use circle::index::inner::powers::power_point;
 use fields::m31::P;
 use fields::m31::inner::add;
+use fields::m31::inner::add_partly;
 use fields::m31::inner::mul_by_partly;
 use fields::m31::inner::mul_partly;
+use fields::m31::inner::partial_reduce;
 use fields::m31::inner::sub;
+use fields::m31::inner::sub_partly;
 use orders::utils::inner::two_to;
 
-// A butterfly with twiddle w on each pair of words, half a block apart.
+// A butterfly with twiddle w on each pair of words, half a block apart. P may stand for 0, before and after it.
 fn butterflies(block: &mut [u32], half: usize, w: u32)
-    requires { ⌜ (length (now block) ≡ half + half) × (w < P) × Words (now block) ⌝ }
-    ensures { λ _. ⌜ now (block .exit) ≡ butterflies words31 half w (now (block .entry)) ⌝ }
+    requires { ⌜ (length (now block) ≡ half + half) × (w < P) × PartlyReduced (now block) ⌝ }
+    ensures { λ _. ⌜ (reducedWords (now (block .exit)) ≡ butterflies words31 half w (reducedWords (now (block .entry)))) × PartlyReduced (now (block .exit)) ⌝ }
 {
     let mut q: usize = 0;
     while q < half {
         let other = half + q;
         let u = block[q];
         let v = mul_by_partly(block[other], w);
-        block[q] = add(u, v);
-        block[other] = sub(u, v);
+        let sum = add_partly(u, v);
+        let difference = sub_partly(u, v);
+        block[q] = sum;
+        block[other] = difference;
         q += 1;
     }
 }
 
 // One layer: each of so many blocks of two halves, with the twiddles from a node on.
 fn layer(column: &mut [u32], tree: &[u32], node: usize, count: usize, half: usize)
-    requires { ⌜ (length (now column) ≡ count * (half + half)) × (node + count ≤ length (now tree)) × Words (now column) × Words (now tree) ⌝ }
-    ensures { λ _. ⌜ now (column .exit) ≡ blocks count (half + half) (λ j. butterflies words31 half (getD (now (tree .entry)) j 0)) node (now (column .entry)) ⌝ }
+    requires { ⌜ (length (now column) ≡ count * (half + half)) × (node + count ≤ length (now tree)) × PartlyReduced (now column) × Words (now tree) ⌝ }
+    ensures { λ _. ⌜ (reducedWords (now (column .exit)) ≡ blocks count (half + half) (λ j. butterflies words31 half (getD (now (tree .entry)) j 0)) node (reducedWords (now (column .entry)))) × PartlyReduced (now (column .exit)) ⌝ }
 {
     let mut b: usize = 0;
+    let mut start: usize = 0;
     while b < count {
-        let start = b * (half + half);
         let end = start + (half + half);
         butterflies(&mut column[start..end], half, tree[node + b]);
+        start = end;
         b += 1;
     }
 }
 
-// Two layers on four words: w for the halves, v and -v for the pairs.
+// Two layers on four words: w for the halves, v and -v for the pairs. It leaves words below P.
 fn four(block: &mut [u32], w: u32, v: u32)
-    requires { ⌜ (length (now block) ≡ 4) × (w < P) × (v < P) × Words (now block) ⌝ }
-    ensures { λ _. ⌜ now (block .exit) ≡ evaluateBlock words31 2 (pairTwiddle w v (negP v)) 0 (now (block .entry)) ⌝ }
+    requires { ⌜ (length (now block) ≡ 4) × (w < P) × (v < P) × PartlyReduced (now block) ⌝ }
+    ensures { λ _. ⌜ now (block .exit) ≡ evaluateBlock words31 2 (pairTwiddle w v (negP v)) 0 (reducedWords (now (block .entry))) ⌝ }
 {
-    let a = block[0];
+    let a = partial_reduce(block[0]);
     let b = block[1];
     let c = mul_partly(block[2], w);
     let d = mul_partly(block[3], w);
     let p = add(a, c);
-    let q = mul_partly(add(b, d), v);
+    let q = mul_partly(add_partly(b, d), v);
     let m = sub(a, c);
-    let n = mul_partly(sub(b, d), v);
+    let n = mul_partly(sub_partly(b, d), v);
     block[0] = add(p, q);
     block[1] = sub(p, q);
     block[2] = sub(m, n);
@@ -68,17 +74,17 @@ fn four(block: &mut [u32], w: u32, v: u32)
 
 // The same with -v and v for the pairs.
 fn four_turned(block: &mut [u32], w: u32, v: u32)
-    requires { ⌜ (length (now block) ≡ 4) × (w < P) × (v < P) × Words (now block) ⌝ }
-    ensures { λ _. ⌜ now (block .exit) ≡ evaluateBlock words31 2 (pairTwiddle w (negP v) v) 0 (now (block .entry)) ⌝ }
+    requires { ⌜ (length (now block) ≡ 4) × (w < P) × (v < P) × PartlyReduced (now block) ⌝ }
+    ensures { λ _. ⌜ now (block .exit) ≡ evaluateBlock words31 2 (pairTwiddle w (negP v) v) 0 (reducedWords (now (block .entry))) ⌝ }
 {
-    let a = block[0];
+    let a = partial_reduce(block[0]);
     let b = block[1];
     let c = mul_partly(block[2], w);
     let d = mul_partly(block[3], w);
     let p = add(a, c);
-    let q = mul_partly(add(b, d), v);
+    let q = mul_partly(add_partly(b, d), v);
     let m = sub(a, c);
-    let n = mul_partly(sub(b, d), v);
+    let n = mul_partly(sub_partly(b, d), v);
     block[0] = sub(p, q);
     block[1] = add(p, q);
     block[2] = add(m, n);
@@ -87,8 +93,8 @@ fn four_turned(block: &mut [u32], w: u32, v: u32)
 
 // The last two layers on the eight words below two siblings, which hold x and y of one point.
 fn eight(block: &mut [u32], x: u32, y: u32)
-    requires { ⌜ (length (now block) ≡ 8) × (x < P) × (y < P) × Words (now block) ⌝ }
-    ensures { λ _. ⌜ now (block .exit) ≡ evaluateEight x y (now (block .entry)) ⌝ }
+    requires { ⌜ (length (now block) ≡ 8) × (x < P) × (y < P) × PartlyReduced (now block) ⌝ }
+    ensures { λ _. ⌜ now (block .exit) ≡ evaluateEight x y (reducedWords (now (block .entry))) ⌝ }
 {
     four(&mut block[0..4], x, y);
     four_turned(&mut block[4..8], y, x);
@@ -96,8 +102,8 @@ fn eight(block: &mut [u32], x: u32, y: u32)
 
 // The last two layers of so many blocks of eight words, below the nodes from `node` on.
 fn eights(column: &mut [u32], tree: &[u32], node: usize, count: usize)
-    requires { ⌜ (length (now column) ≡ count * 8) × (2 * (node + count) ≤ length (now tree)) × Words (now column) × Words (now tree) ⌝ }
-    ensures { λ _. ⌜ now (column .exit) ≡ blocks count 8 (λ j. evaluateEight (getD (now (tree .entry)) (2 * j) 0) (getD (now (tree .entry)) (2 * j + 1) 0)) node (now (column .entry)) ⌝ }
+    requires { ⌜ (length (now column) ≡ count * 8) × (2 * (node + count) ≤ length (now tree)) × PartlyReduced (now column) × Words (now tree) ⌝ }
+    ensures { λ _. ⌜ now (column .exit) ≡ blocks count 8 (λ j. evaluateEight (getD (now (tree .entry)) (2 * j) 0) (getD (now (tree .entry)) (2 * j + 1) 0)) node (reducedWords (now (column .entry))) ⌝ }
 {
     let mut b: usize = 0;
     while b < count {
@@ -111,8 +117,8 @@ fn eights(column: &mut [u32], tree: &[u32], node: usize, count: usize)
 
 // A block of 2^k words below node i, layer by layer.
 fn layers(column: &mut [u32], tree: &[u32], i: usize, k: u32)
-    requires { ⌜ Block (now column) (now tree) i k ⌝ }
-    ensures { λ _. ⌜ now (column .exit) ≡ evaluateBlock words31 k (nodeTwiddle (now (tree .entry))) i (now (column .entry)) ⌝ }
+    requires { ⌜ Block (reducedWords (now column)) (now tree) i k × PartlyReduced (now column) ⌝ }
+    ensures { λ _. ⌜ now (column .exit) ≡ evaluateBlock words31 k (nodeTwiddle (now (tree .entry))) i (reducedWords (now (column .entry))) ⌝ }
 {
     let mut t = k;
     let mut node = i;
@@ -129,8 +135,8 @@ fn layers(column: &mut [u32], tree: &[u32], i: usize, k: u32)
 
 // A block of 2^k words below node i. Blocks that fit the cache go layer by layer, longer ones half by half.
 fn block(column: &mut [u32], tree: &[u32], i: usize, k: u32)
-    requires { ⌜ Block (now column) (now tree) i k ⌝ }
-    ensures { λ _. ⌜ now (column .exit) ≡ evaluateBlock words31 k (nodeTwiddle (now (tree .entry))) i (now (column .entry)) ⌝ }
+    requires { ⌜ Block (reducedWords (now column)) (now tree) i k × PartlyReduced (now column) ⌝ }
+    ensures { λ _. ⌜ now (column .exit) ≡ evaluateBlock words31 k (nodeTwiddle (now (tree .entry))) i (reducedWords (now (column .entry))) ⌝ }
 {
     if k <= 14 {
         layers(column, tree, i, k);
@@ -148,6 +154,10 @@ fn evaluate_two(column: &mut [u32])
     ensures { λ _. ⌜ now (column .exit) ≡ valuesOf 1 (now (column .entry)) ⌝ }
 {
     butterflies(column, 1, P - 1);
+    let first = partial_reduce(column[0]);
+    let second = partial_reduce(column[1]);
+    column[0] = first;
+    column[1] = second;
 }
 
 // y is -x at log size 2.

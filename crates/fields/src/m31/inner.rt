@@ -24,7 +24,7 @@ pub fn partial_reduce(val: u32) -> u32
 
 // Down to P, which stands for 0.
 fn reduce_partly(val: u32) -> u32
-    requires { ⌜ val < 2 * P ⌝ }
+    requires { ⌜ val ≤ 2 * P ⌝ }
     ensures { λ r. ⌜ (r % P ≡ val % P) × (r ≤ P) ⌝ }
 {
     val % TWO_POW_31 + val / TWO_POW_31
@@ -47,13 +47,29 @@ pub fn add(a: u32, b: u32) -> u32
     partial_reduce(a + b)
 }
 
-// A difference below 0 wraps to 2^32 more, which is 2 modulo P. b may be P, which stands for 0.
+// A sum that may be P, which stands for 0; so may a and b.
+pub fn add_partly(a: u32, b: u32) -> u32
+    requires { ⌜ (a ≤ P) × (b ≤ P) ⌝ }
+    ensures { λ r. ⌜ (r % P ≡ addP a b) × (r ≤ P) ⌝ }
+{
+    reduce_partly(a + b)
+}
+
+// A difference that may be P where a is. Below 0 it wraps to 2^32 more, which is 2 modulo P.
+pub fn sub_partly(a: u32, b: u32) -> u32
+    requires { ⌜ (a ≤ P) × (b ≤ P) ⌝ }
+    ensures { λ r. ⌜ (r % P ≡ subP a b) × (r ≤ P) × (a < P → r < P) ⌝ }
+{
+    let difference = std::num::wrapping_sub_u32(a, b);
+    (difference - difference / TWO_POW_31) % TWO_POW_31
+}
+
+// b may be P, which stands for 0.
 pub fn sub(a: u32, b: u32) -> u32
     requires { ⌜ (a < P) × (b ≤ P) ⌝ }
     ensures { λ r. ⌜ r ≡ subP a b ⌝ }
 {
-    let difference = std::num::wrapping_sub_u32(a, b);
-    (difference - difference / TWO_POW_31) % TWO_POW_31
+    sub_partly(a, b)
 }
 
 // 0 stays 0: P - 0 is reduced.
@@ -82,7 +98,7 @@ pub fn product(a: u32, b: u32) -> u64
 // The bits from 31 on of the product with w, added to those below. Where w stays the same through a loop, 2w does too, and the
 // product with 2w divides at 32 bits, which takes fewer steps there.
 fn halves_by(a: u32, w: u32) -> u32
-    requires { ⌜ (a < P) × (w < P) ⌝ }
+    requires { ⌜ (a ≤ P) × (w < P) ⌝ }
     ensures { λ r. ⌜ (r ≡ (a * w) % 2147483648 + (a * w) / 2147483648) × (r < 2 * P) ⌝ }
 {
     let twice = std::num::wrapping_add_u32(w, w);
@@ -98,9 +114,9 @@ pub fn mul_by(a: u32, w: u32) -> u32
     partial_reduce(halves_by(a, w))
 }
 
-// The same for a sum and a difference, which reduce it: P may stand for 0.
+// The same for a sum and a difference, which reduce it: P may stand for 0, as it may in a.
 pub fn mul_by_partly(a: u32, w: u32) -> u32
-    requires { ⌜ (a < P) × (w < P) ⌝ }
+    requires { ⌜ (a ≤ P) × (w < P) ⌝ }
     ensures { λ r. ⌜ (r % P ≡ mulP a w) × (r ≤ P) ⌝ }
 {
     reduce_partly(halves_by(a, w))
@@ -108,10 +124,10 @@ pub fn mul_by_partly(a: u32, w: u32) -> u32
 
 // The same where both factors change.
 pub fn mul_partly(a: u32, b: u32) -> u32
-    requires { ⌜ (a < P) × (b < P) ⌝ }
+    requires { ⌜ (a ≤ P) × (b < P) ⌝ }
     ensures { λ r. ⌜ (r % P ≡ mulP a b) × (r ≤ P) ⌝ }
 {
-    let wide = product(a, b);
+    let wide = (a as u64) * (b as u64);
     let low = (wide % TWO_POW_31_U64) as u32;
     let high = (wide / TWO_POW_31_U64) as u32;
     reduce_partly(low + high)

@@ -1,10 +1,13 @@
 use Prim.Native.Nat.{ℕ, _/_, _<_}
-use mathlib.Core.Path.{refl, sym}
+use mathlib.Core.Path.{_≡_, sym, _∙_, ap}
+use mathlib.Core.List.{List}
 use native.Mathlib.Omega.{arith}
 use lib.ListN.{length}
 use borrow.Author.Needs.{needs}
 use borrow.Fn.Kinds.{In}
 use borrow.Fn.PlainCycle.{Measures, is, falls, and}
+use Rattle.transform.specs.Tree.{reducedWords}
+use Rattle.transform.proofs.Partly.{reduced-length}
 use Rattle.transform.proofs.HalfBlocks.{halves-size, node-room, column-size, first-block, second-block, block-evaluated, lower-length, middle-length}
 use Rattle.transform.proofs.evaluation.block.Reads as block
 use Rattle.transform.proofs.evaluation.block.Kinds as block-kinds
@@ -13,6 +16,10 @@ use Rattle.transform.proofs.evaluation.butterflies.Reads as butterflies
 use Rattle.transform.proofs.evaluation.layers.Reads as layers-reads
 use Rattle.transform.proofs.evaluation.+block.{statement}
 use Rattle.transform.proofs.evaluation.+block.Tie.{close}
+
+-- as many words stand for as many
+halved : (c : List ℕ) → length c / 2 ≡ length (reducedWords c) / 2
+halved c = ap (λ (n : ℕ). n / 2) (sym (reduced-length c))
 
 abbrev μ-block : Measures 2 block-kinds.ps ℕ
 μ-block κs a = a .1 .1 .1 .0
@@ -64,7 +71,7 @@ block-mul-butterflies : (t : ℕ) → block-lts.Need-mul-butterflies (
 block-mul-butterflies t c =
     let s = c .before .before .before .before in
     let big : 14 < s .args .k = omega arith in
-    omega (arith, node-room (s .args .column .now) (s .args .tree .now) (s .args .i) (s .args .k) (s .pre .1) big (length (s .args .column .now) / 2) refl)
+    omega (arith, node-room (reducedWords (s .args .column .now)) (s .args .tree .now) (s .args .i) (s .args .k) (s .pre .1 .0) big (length (s .args .column .now) / 2) (halved (s .args .column .now)))
 
 block-shared-slice-read-butterflies : (t : ℕ) → block-lts.Need-shared-slice-read-butterflies (
   layers-reads.Asked,
@@ -77,7 +84,7 @@ block-shared-slice-read-butterflies : (t : ℕ) → block-lts.Need-shared-slice-
 block-shared-slice-read-butterflies t c =
     let s = c .before .before .before .before .before in
     let big : 14 < s .args .k = omega arith in
-    node-room (s .args .column .now) (s .args .tree .now) (s .args .i) (s .args .k) (s .pre .1) big (length (s .args .column .now) / 2) refl
+    node-room (reducedWords (s .args .column .now)) (s .args .tree .now) (s .args .i) (s .args .k) (s .pre .1 .0) big (length (s .args .column .now) / 2) (halved (s .args .column .now))
 
 block-butterflies-requires : (t : ℕ) → block-lts.Need-butterflies-requires (
   layers-reads.Asked,
@@ -90,7 +97,7 @@ block-butterflies-requires : (t : ℕ) → block-lts.Need-butterflies-requires (
 block-butterflies-requires t c κs =
     let s = c .before .before .before .before .before in
     let big : 14 < s .args .k = omega arith in
-    (halves-size (s .args .column .now) (s .args .tree .now) (s .args .i) (s .args .k) (s .pre .1) big (length (s .args .column .now) / 2) refl, s .pre .1 .twiddles (s .args .i), s .pre .1 .words)
+    (sym (reduced-length (s .args .column .now)) ∙ halves-size (reducedWords (s .args .column .now)) (s .args .tree .now) (s .args .i) (s .args .k) (s .pre .1 .0) big (length (s .args .column .now) / 2) (halved (s .args .column .now)), s .pre .1 .0 .twiddles (s .args .i), s .pre .1 .1)
 
 block-slice-relend-prefix-block : (t : ℕ) → block-lts.Need-slice-relend-prefix-block (
   layers-reads.Asked,
@@ -114,7 +121,7 @@ block-slice-aggregate-block t c =
     let s = c .before .before .before .before .before .before .before .before .before in
     let big : 14 < s .args .k = omega arith in
     let butterflies = c .before .before .before .butterflies in
-    sym (lower-length (butterflies .last .0) (length (s .args .column .now) / 2) (column-size (s .args .column .now) (s .args .tree .now) (s .args .i) (s .args .k) (s .pre .1) big (length (s .args .column .now) / 2) refl (butterflies .last .0) (butterflies .ensures)))
+    sym (lower-length (butterflies .last .0) (length (s .args .column .now) / 2) (column-size (reducedWords (s .args .column .now)) (s .args .tree .now) (s .args .i) (s .args .k) (s .pre .1 .0) big (length (s .args .column .now) / 2) (halved (s .args .column .now)) (butterflies .last .0) (butterflies .ensures .0) (butterflies .ensures .1)))
 
 block-mul-block : (t : ℕ) → block-lts.Need-mul-block (
   layers-reads.Asked,
@@ -127,7 +134,7 @@ block-mul-block : (t : ℕ) → block-lts.Need-mul-block (
 block-mul-block t c =
     let s = c .before .before .before .before .before .before .before .before .before in
     let big : 14 < s .args .k = omega arith in
-    omega (arith, node-room (s .args .column .now) (s .args .tree .now) (s .args .i) (s .args .k) (s .pre .1) big (length (s .args .column .now) / 2) refl)
+    omega (arith, node-room (reducedWords (s .args .column .now)) (s .args .tree .now) (s .args .i) (s .args .k) (s .pre .1 .0) big (length (s .args .column .now) / 2) (halved (s .args .column .now)))
 
 block-sub-block : (t : ℕ) → block-lts.Need-sub-block (
   layers-reads.Asked,
@@ -151,7 +158,7 @@ block-block-requires t c κs =
     let s = c .before .before .before .before .before .before .before .before .before in
     let big : 14 < s .args .k = omega arith in
     let butterflies = c .before .before .before .butterflies in
-    (omega arith, first-block (s .args .column .now) (s .args .tree .now) (s .args .i) (s .args .k) (s .pre .1) big (length (s .args .column .now) / 2) refl (butterflies .last .0) (butterflies .ensures))
+    (omega arith, first-block (reducedWords (s .args .column .now)) (s .args .tree .now) (s .args .i) (s .args .k) (s .pre .1 .0) big (length (s .args .column .now) / 2) (halved (s .args .column .now)) (butterflies .last .0) (butterflies .ensures .0) (butterflies .ensures .1))
 
 block-mul-block-2 : (t : ℕ) → block-lts.Need-mul-block-2 (
   layers-reads.Asked,
@@ -175,7 +182,7 @@ block-sub-block-2 t c =
     let s = c .before .before .before .before .before .before .before .before .before .before .before .before in
     let big : 14 < s .args .k = omega arith in
     let butterflies = c .before .before .before .before .before .before .butterflies in
-    omega (arith, middle-length (butterflies .last .0) (length (s .args .column .now) / 2) (column-size (s .args .column .now) (s .args .tree .now) (s .args .i) (s .args .k) (s .pre .1) big (length (s .args .column .now) / 2) refl (butterflies .last .0) (butterflies .ensures)) (c .before .before .block .last .0) (c .before .before .block .kept .0))
+    omega (arith, middle-length (butterflies .last .0) (length (s .args .column .now) / 2) (column-size (reducedWords (s .args .column .now)) (s .args .tree .now) (s .args .i) (s .args .k) (s .pre .1 .0) big (length (s .args .column .now) / 2) (halved (s .args .column .now)) (butterflies .last .0) (butterflies .ensures .0) (butterflies .ensures .1)) (c .before .before .block .last .0) (c .before .before .block .kept .0))
 
 block-part-block-start : (t : ℕ) → block-lts.Need-part-block-start (
   layers-reads.Asked,
@@ -189,7 +196,7 @@ block-part-block-start t c =
     let s = c .before .before .before .before .before .before .before .before .before .before .before .before in
     let big : 14 < s .args .k = omega arith in
     let butterflies = c .before .before .before .before .before .before .butterflies in
-    omega (arith, middle-length (butterflies .last .0) (length (s .args .column .now) / 2) (column-size (s .args .column .now) (s .args .tree .now) (s .args .i) (s .args .k) (s .pre .1) big (length (s .args .column .now) / 2) refl (butterflies .last .0) (butterflies .ensures)) (c .before .before .block .last .0) (c .before .before .block .kept .0))
+    omega (arith, middle-length (butterflies .last .0) (length (s .args .column .now) / 2) (column-size (reducedWords (s .args .column .now)) (s .args .tree .now) (s .args .i) (s .args .k) (s .pre .1 .0) big (length (s .args .column .now) / 2) (halved (s .args .column .now)) (butterflies .last .0) (butterflies .ensures .0) (butterflies .ensures .1)) (c .before .before .block .last .0) (c .before .before .block .kept .0))
 
 block-part-block-end : (t : ℕ) → block-lts.Need-part-block-end (
   layers-reads.Asked,
@@ -212,7 +219,7 @@ block-mul-block-3 : (t : ℕ) → block-lts.Need-mul-block-3 (
 block-mul-block-3 t c =
     let s = c .before .before .before .before .before .before .before .before .before .before .before .before .before in
     let big : 14 < s .args .k = omega arith in
-    omega (arith, node-room (s .args .column .now) (s .args .tree .now) (s .args .i) (s .args .k) (s .pre .1) big (length (s .args .column .now) / 2) refl)
+    omega (arith, node-room (reducedWords (s .args .column .now)) (s .args .tree .now) (s .args .i) (s .args .k) (s .pre .1 .0) big (length (s .args .column .now) / 2) (halved (s .args .column .now)))
 
 block-add-block : (t : ℕ) → block-lts.Need-add-block (
   layers-reads.Asked,
@@ -225,7 +232,7 @@ block-add-block : (t : ℕ) → block-lts.Need-add-block (
 block-add-block t c =
     let s = c .before .before .before .before .before .before .before .before .before .before .before .before .before in
     let big : 14 < s .args .k = omega arith in
-    omega (arith, node-room (s .args .column .now) (s .args .tree .now) (s .args .i) (s .args .k) (s .pre .1) big (length (s .args .column .now) / 2) refl)
+    omega (arith, node-room (reducedWords (s .args .column .now)) (s .args .tree .now) (s .args .i) (s .args .k) (s .pre .1 .0) big (length (s .args .column .now) / 2) (halved (s .args .column .now)))
 
 block-sub-block-3 : (t : ℕ) → block-lts.Need-sub-block-3 (
   layers-reads.Asked,
@@ -250,7 +257,7 @@ block-block-requires-2 t c κs =
     let big : 14 < s .args .k = omega arith in
     let butterflies = c .before .before .before .before .before .before .before .butterflies in
     let lower = c .before .before .before .block in
-    (omega arith, second-block (s .args .column .now) (s .args .tree .now) (s .args .i) (s .args .k) (s .pre .1) big (length (s .args .column .now) / 2) refl (butterflies .last .0) (butterflies .ensures) (lower .last .0) (lower .kept .0))
+    (omega arith, second-block (reducedWords (s .args .column .now)) (s .args .tree .now) (s .args .i) (s .args .k) (s .pre .1 .0) big (length (s .args .column .now) / 2) (halved (s .args .column .now)) (butterflies .last .0) (butterflies .ensures .0) (butterflies .ensures .1) (lower .last .0) (lower .kept .0))
 
 block-same-length-2 : (t : ℕ) → block-lts.Need-same-length-2 (
   layers-reads.Asked,
@@ -276,7 +283,7 @@ block-returns-2 t c =
     let butterflies = c .before .before .before .before .before .before .before .before .before .before .butterflies in
     let lower = c .before .before .before .before .before .before .block in
     let upper = c .before .before .block2 in
-    block-evaluated (s .args .column .now) (s .args .tree .now) (s .args .i) (s .args .k) (s .pre .1) big (length (s .args .column .now) / 2) refl (butterflies .last .0) (butterflies .ensures) (lower .last .0) (lower .kept .0) (upper .last .0) (lower .ensures) (upper .ensures)
+    block-evaluated (reducedWords (s .args .column .now)) (s .args .tree .now) (s .args .i) (s .args .k) (s .pre .1 .0) big (length (s .args .column .now) / 2) (halved (s .args .column .now)) (butterflies .last .0) (butterflies .ensures .0) (butterflies .ensures .1) (lower .last .0) (lower .kept .0) (upper .last .0) (lower .ensures) (upper .ensures)
 
 pub +block-spec : {M : Type 1} → statement M
 +block-spec = close μ-block λ t. block-lts.spec (

@@ -1,41 +1,35 @@
-use Prim.Native.Nat.{_+_, _-_, _<_, _≤_}
-use mathlib.Core.Path.{_≡_, refl, _∙_}
+use Prim.Native.Nat.{ℕ, _+_, _-_, _%_, _≤_}
+use mathlib.Core.Path.{_≡_, refl, sym, _∙_, ap, ap₂}
+use mathlib.Core.List.{List}
 use native.Mathlib.Omega.{arith}
-use lib.ListN.{length, getD, length-set}
+use lib.ListN.{length, getD, set, length-set}
 use borrow.Author.Needs.{needs}
 use Rattle.algebra.specs.M31.{P}
 use Rattle.fields.specs.Words.{words31}
 use Rattle.column.specs.Butterflies.{butterflySum, butterflyDifference, butterflies}
-use Rattle.transform.proofs.WordLaws.{partly-sum, partly-difference}
-use Rattle.transform.proofs.Halves.{halfway, halfway-start, halfway-end, first-word, second-word, halfway-next}
+use Rattle.transform.specs.Tree.{PartlyReduced, reducedWords}
+use Rattle.transform.proofs.Partly.{partly-set, reduced-length, reduced-at, reduced-set, partly-sum, partly-difference}
+use Rattle.transform.proofs.Halves.{halfway, halfway-start, halfway-end, halfway-next}
 use Rattle.transform.proofs.evaluation.butterflies.Statement.{statement}
 use Rattle.transform.proofs.evaluation.butterflies.Tie as tie
 
 -- both halves are written up to q
 abbrev Inv-loop : tie.InvT-loop
 Inv-loop block₀ half w q₀ block q =
-    (q ≤ half) × (block ≡ halfway (butterflySum words31 w) (butterflyDifference words31 w) block₀ half q) × (length block ≡ length block₀)
+    (q ≤ half) × (reducedWords block ≡ halfway (butterflySum words31 w) (butterflyDifference words31 w) (reducedWords block₀) half q) × (length block ≡ length block₀) × PartlyReduced block
 
 abbrev μ-loop : tie.MeasureT-loop
 μ-loop block₀ half w q₀ block q = half - q
 
--- the two words of a turn are below P
-lower-word : (d : tie.In-loop Inv-loop μ-loop) → getD (d .before .loop .block) (d .before .loop .q) 0 < P
-lower-word d =
-    let s = d .before .before .before in
-    first-word (butterflySum words31 (s .args .w)) (butterflyDifference words31 (s .args .w)) (s .args .block .now) (s .args .half) (s .pre .0)
-    (d .before .loop .block) (d .before .loop .q) (d .loop-test .taken) (d .before .loop .inv .1) (s .pre .2)
-
-upper-word : (d : tie.In-loop Inv-loop μ-loop) → getD (d .before .loop .block) (d .before .before .before .args .half + d .before .loop .q) 0 < P
-upper-word d =
-    let s = d .before .before .before in
-    second-word (butterflySum words31 (s .args .w)) (butterflyDifference words31 (s .args .w)) (s .args .block .now) (s .args .half) (s .pre .0)
-    (d .before .loop .block) (d .before .loop .q) (d .loop-test .taken) (d .before .loop .inv .1) (s .pre .2)
-
 loop-holds : tie.Need-loop-holds Inv-loop μ-loop
 loop-holds c =
     let s = c .before in
-    (search needs, halfway-start (butterflySum words31 (s .args .w)) (butterflyDifference words31 (s .args .w)) (s .args .block .now) (s .args .half) (s .pre .0), refl)
+    let block = s .args .block .now in (
+      search needs,
+      halfway-start (butterflySum words31 (s .args .w)) (butterflyDifference words31 (s .args .w)) (reducedWords block) (s .args .half) (reduced-length block ∙ s .pre .0),
+      refl,
+      s .pre .2,
+    )
 
 add-other : tie.Need-add-other Inv-loop μ-loop
 add-other c = omega arith
@@ -53,19 +47,19 @@ slice-read-mul-by-partly : tie.Need-slice-read-mul-by-partly Inv-loop μ-loop
 slice-read-mul-by-partly c = omega arith
 
 mul-by-partly-requires : tie.Need-mul-by-partly-requires Inv-loop μ-loop
-mul-by-partly-requires c κs = (upper-word (c .before .before), search needs)
+mul-by-partly-requires c κs = (c .before .before .before .loop .inv .3 _, search needs)
 
-add-requires : tie.Need-add-requires Inv-loop μ-loop
-add-requires c κs = (lower-word (c .before .before .before), c .mul-by-partly .ensures .1)
+add-partly-requires : tie.Need-add-partly-requires Inv-loop μ-loop
+add-partly-requires c κs = (c .before .before .before .before .loop .inv .3 _, c .mul-by-partly .ensures .1)
+
+sub-partly-requires : tie.Need-sub-partly-requires Inv-loop μ-loop
+sub-partly-requires c κs = (c .before .before .before .before .before .loop .inv .3 _, c .before .mul-by-partly .ensures .1)
 
 mul-block : tie.Need-mul-block Inv-loop μ-loop
 mul-block c = search needs
 
 slice-write-block : tie.Need-slice-write-block Inv-loop μ-loop
 slice-write-block c = omega arith
-
-sub-requires : tie.Need-sub-requires Inv-loop μ-loop
-sub-requires c κs = (lower-word (c .before .before .before .before), c .before .mul-by-partly .ensures .1)
 
 mul-block-2 : tie.Need-mul-block-2 Inv-loop μ-loop
 mul-block-2 c = search needs
@@ -83,14 +77,22 @@ loop-again : tie.Need-loop-again Inv-loop μ-loop
 loop-again c =
     let d : tie.In-loop Inv-loop μ-loop = c .before .before .before .before .before in
     let s = d .before .before .before in
-    let u = getD (d .before .loop .block) (d .before .loop .q) 0 in
-    let v = c .before .before .mul-by-partly .result in
-    let product = c .before .before .mul-by-partly .ensures .0 in (
+    let block = d .before .loop .block in
+    let q = d .before .loop .q in
+    let other = s .args .half + q in
+    let sum = c .before .add-partly in
+    let difference = c .sub-partly in
+    let product = c .before .before .mul-by-partly .ensures .0 in
+    let first = sym (reduced-at block q) in
+    let second = sym (reduced-at block other) in (
       omega arith,
-      halfway-next (butterflySum words31 (s .args .w)) (butterflyDifference words31 (s .args .w)) (s .args .block .now) (s .args .half) (s .pre .0)
-          (d .before .loop .block) (d .before .loop .q) (d .loop-test .taken) (d .before .loop .inv .1) (c .before .add .result) (c .sub .result)
-          (partly-sum _ u _ v _ product (c .before .add .ensures)) (partly-difference _ u _ v _ product (c .sub .ensures)),
+      reduced-set (set block q (sum .result)) other (difference .result) ∙ ap (λ (r : List ℕ). set r other (difference .result % P)) (reduced-set block q (sum .result))
+          ∙ halfway-next (butterflySum words31 (s .args .w)) (butterflyDifference words31 (s .args .w)) (reducedWords (s .args .block .now)) (s .args .half)
+          (reduced-length (s .args .block .now) ∙ s .pre .0) (reducedWords block) q (d .loop-test .taken) (d .before .loop .inv .1) (sum .result % P) (difference .result % P)
+          (partly-sum _ _ _ _ product _ (sum .ensures .0) ∙ ap₂ (butterflySum words31 (s .args .w)) first second)
+          (partly-difference _ _ _ _ product _ (difference .ensures .0) ∙ ap₂ (butterflyDifference words31 (s .args .w)) first second),
       simp (length-set) (d .before .loop .inv .2),
+      partly-set (set block q (sum .result)) other (difference .result) (partly-set block q (sum .result) (d .before .loop .inv .3) (sum .ensures .1)) (difference .ensures .1),
     )
 
 same-length : tie.Need-same-length Inv-loop μ-loop
@@ -100,9 +102,12 @@ returns : tie.Need-returns Inv-loop μ-loop
 unfolding butterflies
 returns c =
     let s = c .before .before .before in
-    c .before .loop .inv .1
-    ∙ halfway-end (butterflySum words31 (s .args .w)) (butterflyDifference words31 (s .args .w)) (s .args .block .now) (s .args .half) (s .pre .0)
-    (c .before .loop .q) (c .before .loop .inv .0) (c .loop-test .left)
+    let block = s .args .block .now in (
+      c .before .loop .inv .1
+          ∙ halfway-end (butterflySum words31 (s .args .w)) (butterflyDifference words31 (s .args .w)) (reducedWords block) (s .args .half) (reduced-length block ∙ s .pre .0)
+          (c .before .loop .q) (c .before .loop .inv .0) (c .loop-test .left),
+      c .before .loop .inv .3,
+    )
 
 pub butterflies-spec : {M : Type 1} → statement M
 butterflies-spec =
@@ -117,10 +122,10 @@ butterflies-spec =
     mul-mul-by-partly
     slice-read-mul-by-partly
     mul-by-partly-requires
-    add-requires
+    add-partly-requires
+    sub-partly-requires
     mul-block
     slice-write-block
-    sub-requires
     mul-block-2
     slice-write-block-2
     add-q

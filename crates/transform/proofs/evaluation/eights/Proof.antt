@@ -1,17 +1,20 @@
 use Prim.Native.Nat.{ℕ, _+_, _-_, _*_, _≤_}
-use mathlib.Core.Path.{refl}
+use mathlib.Core.Path.{_≡_, refl, sym, _∙_, subst}
 use mathlib.Core.List.{List}
 use native.Mathlib.Nat as N
 use native.Mathlib.Omega.{arith}
-use lib.ListN.{length, getD}
+use lib.ListN.{length, getD, take, drop}
+use lib.Seq.{take-all}
 use borrow.Author.Needs.{needs}
+use Rattle.algebra.specs.M31.{P-pos}
 use Rattle.fields.specs.Words.{negP, words31}
 use Rattle.column.specs.Butterflies.{evaluateBlock}
 use Rattle.column.specs.Paths.{evaluate-length}
-use Rattle.transform.specs.Tree.{pairTwiddle, evaluateEight}
+use Rattle.transform.specs.Tree.{Words, reducedWords, pairTwiddle, evaluateEight}
 use Rattle.transform.proofs.WordLaws.{words-evaluate}
 use Rattle.transform.proofs.Eights.{eight-length, eight-words}
-use Rattle.transform.proofs.BlockLoops.{Turn, turn-start, turn-end, inside, part-length, part-words, turn-next}
+use Rattle.transform.proofs.Partly.{partly-words, reduced-below, reduced-same}
+use Rattle.transform.proofs.BlockLoops.{turn-end, PartlyTurn, partly-start, partly-same, partly-inside, partly-part-length, partly-part, partly-next, spliced-prefix}
 use Rattle.transform.proofs.evaluation.eights.Statement.{statement}
 use Rattle.transform.proofs.evaluation.eights.Tie as tie
 
@@ -25,28 +28,36 @@ first x y = evaluateBlock words31 2 (pairTwiddle x y (negP y)) 0
 abbrev second : ℕ → ℕ → List ℕ → List ℕ
 second x y = evaluateBlock words31 2 (pairTwiddle y (negP x) x) 0
 
+turned-below : (tree : List ℕ) (j : ℕ) (l q : List ℕ) → q ≡ turned tree j (reducedWords l) → Words q
+turned-below tree j l q e k =
+    let x = getD tree (2 * j) 0 in
+    let y = getD tree (2 * j + 1) 0 in
+    rw e (eight-words (first x y) (second x y) (λ l w. words-evaluate 2 _ 0 l w) (λ l w. words-evaluate 2 _ 0 l w) (reducedWords l) (reduced-below l) k)
+
+-- the blocks before b are reduced
 abbrev Inv-loop : tie.InvT-loop
-Inv-loop column₀ tree node count b₀ column b = Turn count 8 (turned tree) node column₀ b column
+Inv-loop column₀ tree node count b₀ column b = PartlyTurn count 8 (turned tree) node column₀ b column × Words (take (8 * b) column)
 
 abbrev μ-loop : tie.MeasureT-loop
 μ-loop column₀ tree node count b₀ column b = count - b
 
-in-column : (d : tie.In-loop Inv-loop μ-loop) → 8 * d .before .loop .b + 8 ≤ length (d .before .loop .column)
+in-column : (d : tie.In-loop Inv-loop μ-loop)
+    → (8 * d .before .loop .b + 8 ≤ length (d .before .loop .column)) × (length (d .before .loop .column) ≡ length (d .before .before .before .before .args .column .now))
 in-column d =
     let s = d .before .before .before .before in
-    inside (s .args .count) 8 (turned (s .args .tree .now)) (s .args .node) (s .args .column .now) (s .pre .0)
-    (d .before .loop .b) (d .before .loop .column) (d .before .loop .inv) (d .loop-test .taken) _ _ (N.mul-comm 8 (d .before .loop .b)) refl
+    partly-inside (s .args .count) 8 (turned (s .args .tree .now)) (s .args .node) (s .args .column .now) (s .pre .0)
+    (d .before .loop .b) (d .before .loop .column) (d .before .loop .inv .0) (d .loop-test .taken) _ _ (N.mul-comm 8 (d .before .loop .b)) refl
 
 loop-holds : tie.Need-loop-holds Inv-loop μ-loop
 loop-holds c =
-    let s = c .before .before .args in
-    turn-start (s .count) 8 (turned (s .tree .now)) (s .node) (s .column .now)
+    let s = c .before .before in
+    (partly-start (s .args .count) 8 (turned (s .args .tree .now)) (s .args .node) (s .args .column .now) (s .pre .2), λ k. P-pos)
 
 mul-start : tie.Need-mul-start Inv-loop μ-loop
-mul-start c = omega (arith, in-column c)
+mul-start c = omega (arith, in-column c .0, in-column c .1)
 
 add-end : tie.Need-add-end Inv-loop μ-loop
-add-end c = omega (arith, in-column c)
+add-end c = omega (arith, in-column c .0, in-column c .1)
 
 add-child : tie.Need-add-child Inv-loop μ-loop
 add-child c = omega arith
@@ -55,7 +66,7 @@ mul-child : tie.Need-mul-child Inv-loop μ-loop
 mul-child c = omega arith
 
 mul-eight : tie.Need-mul-eight Inv-loop μ-loop
-mul-eight c = omega (arith, in-column c)
+mul-eight c = omega (arith, in-column c .0, in-column c .1)
 
 sub-eight : tie.Need-sub-eight Inv-loop μ-loop
 sub-eight c = search needs
@@ -64,7 +75,7 @@ part-eight-start : tie.Need-part-eight-start Inv-loop μ-loop
 part-eight-start c = search needs
 
 part-eight-end : tie.Need-part-eight-end Inv-loop μ-loop
-part-eight-end c = in-column c
+part-eight-end c = in-column c .0
 
 mul-eight-2 : tie.Need-mul-eight-2 Inv-loop μ-loop
 mul-eight-2 c = omega arith
@@ -87,14 +98,12 @@ eight-requires c κs =
     let s = d .before .before .before .before in
     let tree = s .args .tree .now in
     let child = 2 * (s .args .node + d .before .loop .b) in (
-      part-length (s .args .count) 8 (turned tree) (s .args .node) (s .args .column .now) (s .pre .0)
-          (d .before .loop .b) (d .before .loop .column) (d .before .loop .inv) (d .loop-test .taken) _ _ (N.mul-comm 8 (d .before .loop .b)) refl,
+      partly-part-length (s .args .count) 8 (turned tree) (s .args .node) (s .args .column .now) (s .pre .0)
+          (d .before .loop .b) (d .before .loop .column) (d .before .loop .inv .0) (d .loop-test .taken) _ _ (N.mul-comm 8 (d .before .loop .b)) refl,
       s .pre .3 child,
       s .pre .3 (child + 1),
-      part-words (s .args .count) 8 (turned tree) (s .args .node) (s .args .column .now) (s .pre .0)
-          (d .before .loop .b) (d .before .loop .column) (d .before .loop .inv) (d .loop-test .taken) _ _ (N.mul-comm 8 (d .before .loop .b)) refl
-          (λ j l w. let x = getD tree (2 * j) 0 in let y = getD tree (2 * j + 1) 0 in
-          eight-words (first x y) (second x y) (λ l w. words-evaluate 2 _ 0 l w) (λ l w. words-evaluate 2 _ 0 l w) l w) (s .pre .2),
+      partly-part (s .args .count) 8 (turned tree) (s .args .node) (s .args .column .now) (s .pre .0)
+          (d .before .loop .b) (d .before .loop .column) (d .before .loop .inv .0) (d .loop-test .taken) _ _ (N.mul-comm 8 (d .before .loop .b)) refl,
     )
 
 add-b : tie.Need-add-b Inv-loop μ-loop
@@ -108,20 +117,35 @@ loop-again c =
     let d = c .before .before .before .before .before .before in
     let s = d .before .before .before .before in
     let tree = s .args .tree .now in
-    turn-next (s .args .count) 8 (turned tree) (s .args .node) (s .args .column .now) (s .pre .0)
-    (d .before .loop .b) (d .before .loop .column) (d .before .loop .inv) (d .loop-test .taken) _ _ (N.mul-comm 8 (d .before .loop .b)) refl
-    (λ j l e. let x = getD tree (2 * j) 0 in let y = getD tree (2 * j + 1) 0 in
-    eight-length (first x y) (second x y) (λ l e. evaluate-length words31 2 _ 0 l e) (λ l e. evaluate-length words31 2 _ 0 l e) l e)
-    (c .before .before .eight .last .0) (c .before .before .eight .ensures)
+    let eight = c .before .before .eight in
+    let start = 8 * d .before .loop .b in
+    let below = turned-below tree (s .args .node + d .before .loop .b) (take (start + 8 - start) (drop start (d .before .loop .column))) (eight .last .0) (eight .ensures) in (
+      partly-next (s .args .count) 8 (turned tree) (s .args .node) (s .args .column .now) (s .pre .0)
+          (d .before .loop .b) (d .before .loop .column) (d .before .loop .inv .0) (d .loop-test .taken) _ _ (N.mul-comm 8 (d .before .loop .b)) refl
+          (λ j l e. let x = getD tree (2 * j) 0 in let y = getD tree (2 * j + 1) 0 in
+          eight-length (first x y) (second x y) (λ l e. evaluate-length words31 2 _ 0 l e) (λ l e. evaluate-length words31 2 _ 0 l e) l e)
+          (eight .last .0) (reduced-same (eight .last .0) below ∙ eight .ensures) (partly-words (eight .last .0) below),
+      spliced-prefix (d .before .loop .column) (eight .last .0) _ (8 * d .before .loop .b) 8 (8 * (d .before .loop .b + 1)) (omega (arith, in-column d .0))
+          (eight .kept .0 ∙ partly-part-length (s .args .count) 8 (turned tree) (s .args .node) (s .args .column .now) (s .pre .0)
+          (d .before .loop .b) (d .before .loop .column) (d .before .loop .inv .0) (d .loop-test .taken) _ _ (N.mul-comm 8 (d .before .loop .b)) refl)
+          (omega arith) (d .before .loop .inv .1) below,
+    )
 
 same-length : tie.Need-same-length Inv-loop μ-loop
-same-length c = c .before .loop .inv .same
+same-length c =
+    let s = c .before .before .before .before .args in
+    partly-same (s .count) 8 (turned (s .tree .now)) (s .node) (s .column .now) (c .before .loop .b) (c .before .loop .column) (c .before .loop .inv .0)
 
 returns : tie.Need-returns Inv-loop μ-loop
 returns c =
-    let s = c .before .before .before .before .args in
-    turn-end (s .count) 8 (turned (s .tree .now)) (s .node) (s .column .now)
-    (c .before .loop .b) (c .before .loop .column) (c .before .loop .inv) (c .loop-test .left)
+    let s = c .before .before .before .before in
+    let b = c .before .loop .b in
+    let column = c .before .loop .column in
+    let same = partly-same (s .args .count) 8 (turned (s .args .tree .now)) (s .args .node) (s .args .column .now) b column (c .before .loop .inv .0) in
+    let all = take-all (8 * b) column (omega (arith, same, s .pre .0)) in
+    sym (reduced-same column (subst Words all (c .before .loop .inv .1)))
+    ∙ turn-end (s .args .count) 8 (turned (s .args .tree .now)) (s .args .node) (reducedWords (s .args .column .now))
+    b (reducedWords column) (c .before .loop .inv .0 .turn) (c .loop-test .left)
 
 pub eights-spec : {M : Type 1} → statement M
 eights-spec =

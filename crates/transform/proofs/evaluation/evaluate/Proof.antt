@@ -4,7 +4,7 @@ use native.Mathlib.Omega.{arith}
 use borrow.Author.Needs.{needs}
 use Rattle.transform.specs.Transform.{valuesOf}
 use Rattle.transform.specs.TreeLaws.{tree-words}
-use Rattle.transform.proofs.Whole.{column-of, tree-part, tree-size, filled-length, filled-rest, root-block, column-evaluated, taken-length}
+use Rattle.transform.proofs.Whole.{column-of, tree-part, tree-size, filled-length, filled-rest, evaluation-block, column-evaluated, taken-length}
 use Rattle.transform.proofs.evaluation.evaluate.Statement.{statement}
 use Rattle.transform.proofs.evaluation.evaluate.Tie as tie
 
@@ -66,7 +66,7 @@ block-requires c κs =
     let s = c .before .before .before .before .before .before .before .before .before .before in
     let n = s .args .log-size in
     let lo : 3 ≤ n = omega arith in
-    root-block n (s .args .column .now) (s .args .scratch .now) lo (s .pre .1) (s .pre .2) (s .pre .3) (fill .last .0) (fill .kept .0)
+    evaluation-block n (s .args .column .now) (s .args .scratch .now) lo (s .pre .1) (s .pre .2) (s .pre .3) (fill .last .0) (fill .kept .0)
     (tree-words n (fill .last .0) lo (s .pre .1) (fill .ensures))
 
 same-length-3 : tie.Need-same-length-3

@@ -1,6 +1,11 @@
+use mathlib.Core.Path.{_∙_, ap}
 use borrow.Author.Needs.{needs}
+use Rattle.fields.specs.Words.{negP, words31}
+use Rattle.column.specs.Butterflies.{evaluateBlock}
 use Rattle.circle.specs.Point.{pointOf}
+use Rattle.transform.specs.Tree.{pairTwiddle}
 use Rattle.transform.specs.Elements.{column-words}
+use Rattle.transform.proofs.Partly.{partly-words, reduced-same}
 use Rattle.transform.proofs.SmallSizes.{four-evaluated-values, two-start}
 use Rattle.transform.proofs.evaluation.evaluate_four.Statement.{statement}
 use Rattle.transform.proofs.evaluation.evaluate_four.Tie as tie
@@ -12,7 +17,7 @@ four-turned-requires : tie.Need-four-turned-requires
 four-turned-requires c κs =
     let s = c .before .before .before in
     let x-word = c .before .power-point .ensures .1 .0 in
-    (s .pre .size, x-word, x-word, column-words 2 (s .args .column .now) (s .pre))
+    (s .pre .size, x-word, x-word, partly-words (s .args .column .now) (column-words 2 (s .args .column .now) (s .pre)))
 
 same-length : tie.Need-same-length
 same-length c = search needs
@@ -22,7 +27,9 @@ returns c =
     let four = c .before .before .four-turned in
     let point = c .before .before .before .before .power-point in
     let s = c .before .before .before .before .before .before in
-    four-evaluated-values (point .result .x .0) (two-start (pointOf (point .result)) (point .ensures .0)) (s .args .column .now) (four .last .0) (s .pre) (four .ensures)
+    let x = point .result .x .0 in
+    four-evaluated-values x (two-start (pointOf (point .result)) (point .ensures .0)) (s .args .column .now) (four .last .0) (s .pre)
+    (four .ensures ∙ ap (evaluateBlock words31 2 (pairTwiddle x (negP x) x) 0) (reduced-same (s .args .column .now) (column-words 2 (s .args .column .now) (s .pre))))
 
 pub evaluate-four-spec : {M : Type 1} → statement M
 evaluate-four-spec =

@@ -1,15 +1,17 @@
 use Prim.Native.Nat.{_+_, _≤_}
-use mathlib.Core.Path.{refl, _∙_}
+use mathlib.Core.Path.{refl, sym, _∙_}
 use native.Mathlib.Omega.{arith}
 use lib.ListN.{length}
 use borrow.Author.Needs.{needs}
-use Rattle.transform.specs.Tree.{Block}
+use Rattle.transform.specs.Tree.{PartlyReduced, reducedWords, Block}
+use Rattle.transform.proofs.Partly.{reduced-length}
 use Rattle.transform.proofs.Layers.{Left, left-start, left-nodes, left-size, left-next, eights-size, eights-room, left-end}
 use Rattle.transform.proofs.evaluation.layers.Statement.{statement}
 use Rattle.transform.proofs.evaluation.layers.Tie as tie
 
 abbrev Inv-loop : tie.InvT-loop
-Inv-loop column₀ tree i k t₀ node₀ count₀ column t node count = (b : Block column₀ tree i k) × Left column₀ tree i k b t count node column
+Inv-loop column₀ tree i k t₀ node₀ count₀ column t node count =
+    (b : Block (reducedWords column₀) tree i k) × Left (reducedWords column₀) tree i k b t count node (reducedWords column) × PartlyReduced column
 
 abbrev μ-loop : tie.MeasureT-loop
 μ-loop column₀ tree i k t₀ node₀ count₀ column t node count = t
@@ -17,7 +19,7 @@ abbrev μ-loop : tie.MeasureT-loop
 loop-holds : tie.Need-loop-holds Inv-loop μ-loop
 loop-holds c =
     let s = c .before .before in
-    (s .pre, left-start (s .args .column .now) (s .args .tree .now) (s .args .i) (s .args .k) (s .pre))
+    (s .pre .0, left-start (reducedWords (s .args .column .now)) (s .args .tree .now) (s .args .i) (s .args .k) (s .pre .0), s .pre .1)
 
 sub-t : tie.Need-sub-t Inv-loop μ-loop
 sub-t c = search needs
@@ -30,10 +32,10 @@ layer-requires c κs =
     let d = c .before .before in
     let at = d .before .loop in
     let s = d .before .before .before .before .args in (
-      left-size (s .column .now) (s .tree .now) (s .i) (s .k) (at .inv .0) (at .t) (at .count) (at .node) (at .column) (at .inv .1) _ _ refl (d .loop-test .taken)
+      sym (reduced-length (at .column)) ∙ left-size (reducedWords (s .column .now)) (s .tree .now) (s .i) (s .k) (at .inv .0) (at .t) (at .count) (at .node) (reducedWords (at .column)) (at .inv .1) _ _ refl (d .loop-test .taken)
           (c .before .two-to .ensures),
-      left-nodes (s .column .now) (s .tree .now) (s .i) (s .k) (at .inv .0) (at .t) (at .count) (at .node) (at .column) (at .inv .1),
-      at .inv .1 .words,
+      left-nodes (reducedWords (s .column .now)) (s .tree .now) (s .i) (s .k) (at .inv .0) (at .t) (at .count) (at .node) (reducedWords (at .column)) (at .inv .1),
+      at .inv .2,
       at .inv .0 .twiddles,
     )
 
@@ -41,7 +43,7 @@ in-tree : (d : tie.In-loop Inv-loop μ-loop) → d .before .loop .node + d .befo
 in-tree d =
     let at = d .before .loop in
     let s = d .before .before .before .before .args in
-    left-nodes (s .column .now) (s .tree .now) (s .i) (s .k) (at .inv .0) (at .t) (at .count) (at .node) (at .column) (at .inv .1)
+    left-nodes (reducedWords (s .column .now)) (s .tree .now) (s .i) (s .k) (at .inv .0) (at .t) (at .count) (at .node) (reducedWords (at .column)) (at .inv .1)
 
 mul-node : tie.Need-mul-node Inv-loop μ-loop
 mul-node c = omega (arith, in-tree (c .before .before .before .before .before))
@@ -60,22 +62,26 @@ loop-again c =
     let at = d .before .loop in
     let s = d .before .before .before .before .args in (
       at .inv .0,
-      left-next (s .column .now) (s .tree .now) (s .i) (s .k) (at .inv .0) (at .t) (at .count) (at .node) (at .column) (at .inv .1) _ (power .result) refl
-          (d .loop-test .taken) (power .ensures) (layer .last .0) (layer .ensures),
+      left-next (reducedWords (s .column .now)) (s .tree .now) (s .i) (s .k) (at .inv .0) (at .t) (at .count) (at .node) (reducedWords (at .column)) (at .inv .1) _ (power .result) refl
+          (d .loop-test .taken) (power .ensures) (reducedWords (layer .last .0)) (layer .ensures .0),
+      layer .ensures .1,
     )
 
 eights-requires : tie.Need-eights-requires Inv-loop μ-loop
 eights-requires c κs =
     let at = c .before .before .loop in
     let s = c .before .before .before .before .before .args in (
-      eights-size (s .column .now) (s .tree .now) (s .i) (s .k) (at .inv .0) (at .t) (at .count) (at .node) (at .column) (at .inv .1) (c .before .loop-test .left),
-      eights-room (s .column .now) (s .tree .now) (s .i) (s .k) (at .inv .0) (at .t) (at .count) (at .node) (at .column) (at .inv .1) (c .before .loop-test .left),
-      at .inv .1 .words,
+      sym (reduced-length (at .column)) ∙ eights-size (reducedWords (s .column .now)) (s .tree .now) (s .i) (s .k) (at .inv .0) (at .t) (at .count) (at .node) (reducedWords (at .column)) (at .inv .1) (c .before .loop-test .left),
+      eights-room (reducedWords (s .column .now)) (s .tree .now) (s .i) (s .k) (at .inv .0) (at .t) (at .count) (at .node) (reducedWords (at .column)) (at .inv .1) (c .before .loop-test .left),
+      at .inv .2,
       at .inv .0 .twiddles,
     )
 
 same-length : tie.Need-same-length Inv-loop μ-loop
-same-length c = c .before .before .eights .kept .0 ∙ c .before .before .before .before .before .loop .inv .1 .same
+same-length c =
+    let at = c .before .before .before .before .before .loop in
+    let column = c .before .before .before .before .before .before .before .before .args .column .now in
+    c .before .before .eights .kept .0 ∙ sym (reduced-length (at .column)) ∙ at .inv .1 .same ∙ reduced-length column
 
 returns : tie.Need-returns Inv-loop μ-loop
 returns c =
@@ -83,7 +89,7 @@ returns c =
     let d = c .before .before .before .before in
     let at = d .before .loop in
     let s = d .before .before .before .before .args in
-    left-end (s .column .now) (s .tree .now) (s .i) (s .k) (at .inv .0) (at .t) (at .count) (at .node) (at .column) (at .inv .1) (d .loop-test .left)
+    left-end (reducedWords (s .column .now)) (s .tree .now) (s .i) (s .k) (at .inv .0) (at .t) (at .count) (at .node) (reducedWords (at .column)) (at .inv .1) (d .loop-test .left)
     (eights .last .0) (eights .ensures)
 
 pub layers-spec : {M : Type 1} → statement M

@@ -1,4 +1,4 @@
-use Prim.Native.Nat.{ℕ, _+_, _*_, _/_, _%_, _<_}
+use Prim.Native.Nat.{ℕ, _+_, _*_, _/_, _%_, _≤_, _<_}
 use mathlib.Core.Path.{_≡_, _∙_, ap}
 use native.Mathlib.Omega.{arith}
 use borrow.Author.Needs.{needs}
@@ -29,7 +29,7 @@ cast-result-2 c =
     omega (arith, p .0, p .1)
 
 -- the halves of a doubled product, from its parts
-parts : (a w v : ℕ) → a < P → w < P → v ≡ 2 * (a * w) → (v % 4294967296 / 2 + v / 4294967296 ≡ (a * w) % 2147483648 + (a * w) / 2147483648) × (v % 4294967296 / 2 + v / 4294967296 < 2 * P)
+parts : (a w v : ℕ) → a ≤ P → w < P → v ≡ 2 * (a * w) → (v % 4294967296 / 2 + v / 4294967296 ≡ (a * w) % 2147483648 + (a * w) / 2147483648) × (v % 4294967296 / 2 + v / 4294967296 < 2 * P)
 parts a w v ha hw e =
     let is : v % 4294967296 / 2 + v / 4294967296 ≡ (a * w) % 2147483648 + (a * w) / 2147483648 =
     ap (λ (t : ℕ). t % 4294967296 / 2 + t / 4294967296) e ∙ doubled-halves (a * w) in

@@ -1,18 +1,16 @@
+use mathlib.Core.Path.{sym, _∙_}
+use native.Mathlib.Nat as N
 use borrow.Author.Needs.{needs}
-use Rattle.fields.proofs.Reductions.{unwrap}
 use Rattle.fields.proofs.m31.inner.sub.Statement.{statement}
 use Rattle.fields.proofs.m31.inner.sub.Tie as tie
 
-wrapping-sub-u32-requires : tie.Need-wrapping-sub-u32-requires
-wrapping-sub-u32-requires c κs = search needs
-
-sub-result : tie.Need-sub-result
-sub-result c = search needs
+sub-partly-requires : tie.Need-sub-partly-requires
+sub-partly-requires c κs = search needs
 
 returns : tie.Need-returns
 returns c =
-    unwrap (c .before .args .a) (c .before .args .b) (c .wrapping-sub-u32 .result)
-    (c .before .pre .0) (c .before .pre .1) (search needs) (c .wrapping-sub-u32 .ensures)
+    let partly = c .sub-partly .ensures in
+    sym (N.mod-eq-of-lt (partly .2 (c .before .pre .0))) ∙ partly .0
 
 pub sub-spec : {M : Type 1} → statement M
-sub-spec = tie.close (tie.spec wrapping-sub-u32-requires sub-result returns)
+sub-spec = tie.close (tie.spec sub-partly-requires returns)
