@@ -1,13 +1,14 @@
 -- Two parts of four words, rewritten one after the other.
-use Prim.Native.Nat.{ℕ, _+_, _-_}
-use mathlib.Core.Path.{_≡_, _∙_, ap, ap₂}
-use mathlib.Core.List.{List, _++_, append-nil}
+use Prim.Native.Nat.{ℕ, _+_, _-_, _%_, _≤_}
+use mathlib.Core.Path.{_≡_, refl, sym, _∙_, ap, ap₂, subst}
+use mathlib.Core.List.{List, _++_, append-nil, map-append}
 use native.Mathlib.Omega.{arith}
 use lib.ListN.{length, take, drop, length-append, length-drop, drop-of-length-le}
 use lib.Seq.{length-take-le, take-at, drop-at, take-all}
-use Rattle.transform.specs.Tree.{Words, PartlyReduced}
-use Rattle.transform.proofs.WordLaws.{words-append, words-take, words-drop}
-use Rattle.transform.proofs.Partly.{partly-drop}
+use Rattle.algebra.specs.M31.{P}
+use Rattle.transform.specs.Tree.{Words, PartlyReduced, reducedWords}
+use Rattle.transform.proofs.WordLaws.{each-append, words-append, words-take, words-drop}
+use Rattle.transform.proofs.Partly.{partly-drop, reduced-take, reduced-drop}
 
 module _ (l : List ℕ) (e : length l ≡ 8) where
   pub first-length : length (take (4 - 0) (drop 0 l)) ≡ 4
@@ -39,6 +40,18 @@ module _ (l : List ℕ) (e : length l ≡ 8) where
         ap₂ (λ (a b : List ℕ). a ++ (r ++ b)) (take-at q (drop 4 l) 4 eq)
         (ap (drop 4) (drop-at q (drop 4 l) 4 eq) ∙ drop-of-length-le (drop 4 l) {i = 4} (omega (arith, rest)))
         ∙ ap₂ _++_ ef (append-nil r ∙ eg ∙ ap g second)
+
+    -- the same on what partly reduced words stand for
+    pub partly-parts : (f g : List ℕ → List ℕ) (r : List ℕ) → reducedWords q ≡ f (reducedWords (take (4 - 0) (drop 0 l))) → PartlyReduced q
+        → reducedWords r ≡ g (reducedWords (take (8 - 4) (drop 4 middle))) → PartlyReduced r
+        → (reducedWords (take 4 middle ++ (r ++ drop (8 - 4) (drop 4 middle))) ≡ f (take 4 (reducedWords l)) ++ g (drop 4 (reducedWords l)))
+        × PartlyReduced (take 4 middle ++ (r ++ drop (8 - 4) (drop 4 middle)))
+    partly-parts f g r ef pq eg pr =
+        let parts = both-parts (λ (d : List ℕ). q) (λ (d : List ℕ). r) r refl refl in (
+          ap reducedWords parts ∙ map-append (λ (w : ℕ). w % P) q r
+              ∙ ap₂ _++_ (ef ∙ ap f (reduced-take 4 l)) (eg ∙ ap (λ (d : List ℕ). g (reducedWords d)) second ∙ ap g (reduced-drop 4 l)),
+          subst PartlyReduced (sym parts) (each-append (λ (w : ℕ). w ≤ P) (omega arith) q r pq pr),
+        )
 
 -- four words and four words
 pub eight-length : (f g : List ℕ → List ℕ) → ((d : List ℕ) → length d ≡ 4 → length (f d) ≡ 4) → ((d : List ℕ) → length d ≡ 4 → length (g d) ≡ 4)

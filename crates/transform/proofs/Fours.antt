@@ -1,5 +1,5 @@
 -- Two layers on four words.
-use Prim.Native.Nat.{ℕ, _+_, _-_, _*_, _%_}
+use Prim.Native.Nat.{ℕ, _+_, _-_, _*_, _%_, _≤_}
 use mathlib.Core.Path.{_≡_, refl, sym, _∙_, ap, ap₂}
 use mathlib.Core.List.{List, [], _∷_, _++_, zipWith}
 use native.Mathlib.Nat as N
@@ -11,8 +11,8 @@ use Rattle.fields.specs.Words.{addP, subP, mulP, negP, words31}
 use Rattle.fields.specs.Representation.{solveWords}
 use Rattle.fields.specs.Inverse.{m31-representation}
 use Rattle.column.specs.Butterflies.{onHalves, butterflySum, butterflyDifference, evaluateBlock, inverseSum, inverseDifference, interpolateBlock}
-use Rattle.transform.specs.Tree.{pairTwiddle, reducedWords}
-use Rattle.transform.proofs.Partly.{reduced-at, partly-sum, partly-difference}
+use Rattle.transform.specs.Tree.{PartlyReduced, reducedWords, pairTwiddle}
+use Rattle.transform.proofs.Partly.{partly-set, reduced-at, reduced-set, partly-sum, partly-difference}
 
 -- a butterfly with the negative of a twiddle: its results change places
 sum-negative : (v x y : ℕ) → butterflySum words31 (negP v) x y ≡ butterflyDifference words31 v x y
@@ -158,6 +158,18 @@ interpolate-two-layers tw tv i j e f g l = λ k. layered (e k) (pair (f k) (take
 
     layered : ℕ → List ℕ → List ℕ → List ℕ
     layered w a b = zipWith (inverseSum words31) a b ++ zipWith (inverseDifference words31 w) a b
+
+-- four words, written, and what they stand for
+pub four-reduced : (l : List ℕ) (r0 r1 r2 r3 : ℕ)
+    → reducedWords (set (set (set (set l 0 r0) 1 r1) 2 r2) 3 r3) ≡ set (set (set (set (reducedWords l) 0 (r0 % P)) 1 (r1 % P)) 2 (r2 % P)) 3 (r3 % P)
+four-reduced l r0 r1 r2 r3 =
+    reduced-set (set (set (set l 0 r0) 1 r1) 2 r2) 3 r3
+    ∙ ap (λ (m : List ℕ). set m 3 (r3 % P)) (reduced-set (set (set l 0 r0) 1 r1) 2 r2
+    ∙ ap (λ (m : List ℕ). set m 2 (r2 % P)) (reduced-set (set l 0 r0) 1 r1 ∙ ap (λ (m : List ℕ). set m 1 (r1 % P)) (reduced-set l 0 r0)))
+
+pub four-partly : (l : List ℕ) (r0 r1 r2 r3 : ℕ) → PartlyReduced l → r0 ≤ P → r1 ≤ P → r2 ≤ P → r3 ≤ P → PartlyReduced (set (set (set (set l 0 r0) 1 r1) 2 r2) 3 r3)
+four-partly l r0 r1 r2 r3 p h0 h1 h2 h3 =
+    partly-set (set (set (set l 0 r0) 1 r1) 2 r2) 3 r3 (partly-set (set (set l 0 r0) 1 r1) 2 r2 (partly-set (set l 0 r0) 1 r1 (partly-set l 0 r0 p h0) h1) h2) h3
 
 module _ (w v : ℕ) (l : List ℕ) (e : length l ≡ 4) (r0 r1 r2 r3 : ℕ) where
   pub four-interpolated : r0 ≡ inverseSum words31 (firstSum l) (secondSum l) → r1 ≡ inverseSum words31 (firstDifference v l) (secondNegative v l)

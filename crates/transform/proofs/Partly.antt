@@ -8,7 +8,7 @@ use lib.ListN.{length, getD, take, drop, set, length-map, List·getD-map}
 use Rattle.algebra.specs.M31.{P, P-pos}
 use Rattle.algebra.specs.ZMod.{mod-mul-mod}
 use Rattle.fields.specs.Words.{addP, subP, mulP, words31}
-use Rattle.column.specs.Butterflies.{butterflySum, butterflyDifference}
+use Rattle.column.specs.Butterflies.{butterflySum, butterflyDifference, inverseSum, inverseDifference}
 use Rattle.column.specs.Homomorphism.{map-take, map-drop}
 use Rattle.transform.specs.Tree.{Words, PartlyReduced, reducedWords}
 use Rattle.transform.proofs.WordLaws.{each-append, each-take, each-drop, each-set}
@@ -105,3 +105,15 @@ module _ (w x y v : ℕ) (e : v % P ≡ mulP y w) where
   unfolding butterflyDifference
   partly-difference r f =
       f ∙ sub-partly x v (mulP y w) e ∙ sym (N.mod-add-mod x P ((P - mulP y w % P) % P)) ∙ ap (subP (x % P)) (sym (mod-mul-mod y w P))
+
+-- ---- inverse butterflies of numbers that stand for x and y
+
+module _ (u v x y : ℕ) (ex : u % P ≡ x) (ey : v % P ≡ y) where
+  pub partly-inverse-sum : (r : ℕ) → r ≡ addP u v → r ≡ inverseSum words31 x y
+  unfolding inverseSum
+  partly-inverse-sum r e = e ∙ N.add-mod u v P ∙ ap₂ addP ex ey
+
+  pub partly-inverse-difference : (t d r : ℕ) → d % P ≡ subP u v → r ≡ mulP d t → r ≡ inverseDifference words31 t x y
+  unfolding inverseDifference
+  partly-inverse-difference t d r e f =
+      f ∙ sym (mod-mul-mod d t P) ∙ ap (λ (m : ℕ). mulP m t) (e ∙ sub-partly u v y ey ∙ sym (N.mod-add-mod u P ((P - y % P) % P)) ∙ ap (λ (m : ℕ). subP m y) ex)

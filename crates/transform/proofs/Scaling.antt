@@ -10,6 +10,7 @@ use lib.Arith.{digits-mod}
 use lib.ListN.{length, getD, set, take, drop}
 use lib.Pow as W
 use Rattle.algebra.specs.Polynomial.{_:+_, _:*_, :-_, v0, v1, v2, v3}
+use Rattle.algebra.specs.ZMod.{mod-mul-mod}
 use Rattle.algebra.specs.M31.{P, m31}
 use Rattle.fields.specs.Words.{mulP, words31}
 use Rattle.fields.specs.Representation.{solveWords}
@@ -17,26 +18,10 @@ use Rattle.fields.specs.Inverse.{m31-representation}
 use Rattle.column.specs.Butterflies.{onHalves, inverseSum, inverseDifference, inverseButterflies, scaled}
 use Rattle.column.specs.Lists.{zip-equal}
 use Rattle.column.specs.Inverse.{scaled-length, scaled-zip, zip-scaled, scaled-append, scaled-take, scaled-drop}
-use Rattle.transform.specs.Tree.{Words}
+use Rattle.transform.specs.Tree.{PartlyReduced, reducedWords}
 use Rattle.transform.proofs.Halves.{over, over-length, over-at, over-next, over-all}
 
--- a number of 31 bits in two parts, which change places: still below P, since not all bits are set
-parts-below : (p q u l : ℕ) → q * p ≡ 2147483648 → u < p → l < q → u * q + l < P → l * p + u < P
-parts-below p q u l e hu hl h = elim (decLt (suc l) q) [
-  | yes k ↦ omega (arith, N.mul-le-mul-right {m = suc (suc l)} {n = q} p k, N.suc-mul (suc l) p, N.suc-mul l p)
-  | no g ↦
-      let full : suc l ≡ q = omega arith in
-      let lower : l * p + p ≡ 2147483648 = sym (N.suc-mul l p) ∙ ap (λ (n : ℕ). n * p) full ∙ e in
-      elim (decLt (suc u) p) [
-        | yes m ↦ omega arith
-        | no m ↦
-            let all : suc u ≡ p = omega arith in
-            let upper : u * q + q ≡ 2147483648 = sym (N.suc-mul u q) ∙ ap (λ (n : ℕ). n * q) all ∙ N.mul-comm p q ∙ e in
-            absurd (omega arith)
-      ]
-]
-
-module _ (a s : ℕ) (h : a < P) (hi : s < 31) where
+module _ (a s : ℕ) (h : a ≤ P) (hi : s < 31) where
   abbrev upper : ℕ
   upper = a / 2 ^ (31 - s)
 
@@ -58,19 +43,29 @@ module _ (a s : ℕ) (h : a < P) (hi : s < 31) where
       let small : lower * 2 ^ s < 2147483648 = omega (arith, N.mul-lt-mul-of-pos-right (N.mod-lt a (W.pow-pos (31 - s))) (W.pow-pos s), powers) in
       W.mod-mod-pow (a * 2 ^ s) 1 31 ∙ ap (λ (n : ℕ). n % 2147483648) product ∙ digits-mod upper small
 
-  below : lower * 2 ^ s + upper < P
-  below =
-      let bits : 31 ≡ s + (31 - s) = omega arith in
-      let small : upper < 2 ^ s = W.shr-lt s (31 - s) (rw (← bits) (omega arith)) in
-      parts-below (2 ^ s) (2 ^ (31 - s)) upper lower powers small (N.mod-lt a (W.pow-pos (31 - s))) (rw (W.split a (31 - s)) h)
-
   -- the bits turned by s places
-  pub turned-bits : a * 2 ^ s % 4294967296 % 2147483648 + a / 2 ^ (31 - s) ≡ mulP a (2 ^ s)
+  abbrev turned : ℕ
+  turned = a * 2 ^ s % 4294967296 % 2147483648 + a / 2 ^ (31 - s)
+
+  pub turned-most : turned ≤ P
+  turned-most =
+      let bits : 31 ≡ s + (31 - s) = omega arith in
+      let high : upper < 2 ^ s = W.shr-lt s (31 - s) (rw (← bits) (omega arith)) in
+      let low : suc lower ≤ 2 ^ (31 - s) = N.mod-lt a (W.pow-pos (31 - s)) in
+      omega (arith, shifted, N.mul-le-mul-right {m = suc lower} {n = 2 ^ (31 - s)} (2 ^ s) low, N.suc-mul lower (2 ^ s), powers)
+
+  pub turned-bits : turned % P ≡ mulP a (2 ^ s)
   turned-bits =
       let once : upper * 2147483648 + lower * 2 ^ s ≡ upper * P + (lower * 2 ^ s + upper) = omega arith in
-      ap (λ (n : ℕ). n + upper) shifted ∙ sym (ap (λ (n : ℕ). n % P) (product ∙ once) ∙ digits-mod upper below)
+      ap (λ (n : ℕ). (n + upper) % P) shifted ∙ sym (ap (λ (n : ℕ). n % P) (product ∙ once) ∙ N.mul-add-mod-self-right upper P (lower * 2 ^ s + upper))
 
 -- ---- a column in the middle of a loop: its first i words are scaled
+
+-- words and what they stand for have one multiple
+pub scaled-reduced : (t : ℕ) (c : List ℕ) → scaled words31 t c ≡ scaled words31 t (reducedWords c)
+unfolding scaled
+scaled-reduced t [] = refl
+scaled-reduced t (x ∷ c) = ap₂ _∷_ (sym (mod-mul-mod x t P)) (scaled-reduced t c)
 
 scaled-at : (t : ℕ) (c : List ℕ) (i : ℕ) → i < length c → getD (scaled words31 t c) i 0 ≡ mulP (getD c i 0) t
 unfolding scaled
@@ -100,7 +95,7 @@ module _ (t : ℕ) (c : List ℕ) where
     next : getD column i 0 ≡ getD c i 0
     next = ap (λ (l : List ℕ). getD l i 0) (v .is) ∙ over-at c (scaled words31 t c) i (scaled-length words31 t c) inside
 
-    pub next-word : Words c → getD column i 0 < P
+    pub next-word : PartlyReduced c → getD column i 0 ≤ P
     next-word w = rw next (w i)
 
     pub scaled-next : (x : ℕ) → x ≡ mulP (getD column i 0) t → Scaled (i + 1) (set column i x)

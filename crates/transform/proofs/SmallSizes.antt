@@ -17,11 +17,13 @@ use Rattle.domains.specs.Doubled.{half-two}
 use Rattle.column.specs.Butterflies.{butterflies, evaluateBlock, inverseButterflies, interpolateBlock, scaled}
 use Rattle.column.specs.Tree.{Holds}
 use Rattle.transform.specs.Transform.{valuesOf, Column}
-use Rattle.transform.specs.Tree.{reducedWords, pairTwiddle, Unscaled}
+use Rattle.transform.specs.Tree.{PartlyReduced, reducedWords, pairTwiddle, Unscaled}
 use Rattle.transform.specs.Twiddles.{twiddle}
 use Rattle.transform.specs.Elements.{column-words, tree-values, tree-coefficients}
 use Rattle.transform.specs.TreeLaws.{neg-neg, signs, holds-inverse, root-square}
-use Rattle.transform.proofs.WordLaws.{words-evaluate, words-interpolate, words-inverse, words-scaled}
+use Rattle.transform.proofs.WordLaws.{words-evaluate, words-inverse, words-scaled}
+use Rattle.transform.proofs.Partly.{partly-words, reduced-same}
+use Rattle.transform.proofs.Scaling.{scaled-reduced}
 use Rattle.transform.proofs.Fours.{evaluate-two-layers, interpolate-two-layers}
 
 -- ---- one pair
@@ -53,7 +55,7 @@ as-inverse-block tw i c = refl
 
 pub two-interpolated : (c r : List ℕ) → Column 1 c → r ≡ inverseButterflies words31 1 (P - 1) c → Unscaled 1 c r
 two-interpolated c r h e = record {
-  words = λ k. rw e (words-inverse 1 (P - 1) c k);
+  words = partly-words r (λ k. rw e (words-inverse 1 (P - 1) c k));
   coefficients = tree-coefficients 1 (omega arith) (omega arith) (λ t i. P - 1)
       (holds-inverse 1 (λ t i. P - 1) (λ t i. P - 1) two-holds (λ s d e j h. refl)) c (scaled words31 (2 ^ 30) r) h
       (ap (scaled words31 (2 ^ 30)) (e ∙ as-inverse-block (λ t i. P - 1) 1 c)) (words-scaled (2 ^ 30) r);
@@ -105,14 +107,18 @@ module _ (x : ℕ) (is : x ≡ halfPoint 2 0 .0) where
   four-inverse zero (suc (suc d)) e j h = absurd (omega arith)
   four-inverse (suc s) d e j h = doubled-inverse
 
-  pub four-interpolated-values : (c r : List ℕ) → Column 2 c → r ≡ interpolateBlock words31 2 (pairTwiddle (addP x x) (negP (addP x x)) (addP x x)) 0 c → Unscaled 2 c r
+  pub four-interpolated-values : (c r : List ℕ) → Column 2 c → reducedWords r ≡ interpolateBlock words31 2 (pairTwiddle (addP x x) (negP (addP x x)) (addP x x)) 0 (reducedWords c)
+      → PartlyReduced r → Unscaled 2 c r
   unfolding pairTwiddle
-  four-interpolated-values c r h e =
+  four-interpolated-values c r h e p =
       let tv : ℕ → ℕ → ℕ = pairTwiddle (addP x x) (negP (addP x x)) (addP x x) in
+      let same : reducedWords c ≡ c = reduced-same c (column-words 2 c h) in
       record {
-        words = λ k. rw e (words-interpolate 2 tv 0 c (column-words 2 c h) k);
+        words = p;
         coefficients = tree-coefficients 2 (omega arith) (omega arith) tv (holds-inverse 2 (pairTwiddle x (negP x) x) tv four-holds four-inverse)
-            c (scaled words31 (2 ^ 29) r) h (ap (scaled words31 (2 ^ 29)) (e ∙ interpolate-two-layers tv tv 0 1 refl refl refl c)) (words-scaled (2 ^ 29) r);
+            c (scaled words31 (2 ^ 29) r) h
+            (scaled-reduced (2 ^ 29) r ∙ ap (scaled words31 (2 ^ 29)) (e ∙ ap (interpolateBlock words31 2 tv 0) same ∙ interpolate-two-layers tv tv 0 1 refl refl refl c))
+            (words-scaled (2 ^ 29) r);
       }
 
 -- the point of index 2^28

@@ -17,7 +17,7 @@ use Rattle.transform.specs.Transform.{Coefficients}
 abbrev pub Words : List ℕ → Type 0
 Words l = (k : ℕ) → getD l k 0 < P
 
--- Evaluation reduces the words between its layers only so far that each is at most P, which stands for 0.
+-- Between layers words are reduced only so far that each is at most P, which stands for 0.
 abbrev pub PartlyReduced : List ℕ → Type 0
 PartlyReduced l = (k : ℕ) → getD l k 0 ≤ P
 
@@ -120,5 +120,5 @@ pub record Block (block tree : List ℕ) (i k : ℕ) : Type 0 where
 
 -- 2^n times the coefficients of a column of values
 pub record Unscaled (n : ℕ) (column exit : List ℕ) : Type 0 where
-  pub words : Words exit
+  pub words : PartlyReduced exit
   pub coefficients : Coefficients n (scaled words31 (2 ^ (31 - n)) exit) column

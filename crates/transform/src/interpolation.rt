@@ -7,14 +7,18 @@ ghost use Rattle.fields.specs.Words.{mulP, negP, words31};
 ghost use Rattle.column.specs.Butterflies.{inverseButterflies, interpolateBlock, scaled};
 ghost use Rattle.column.specs.Blocks.{blocks};
 ghost use Rattle.transform.specs.Transform.{Column, Coefficients};
-ghost use Rattle.transform.specs.Tree.{Words, nodeTwiddle, pairTwiddle, interpolateEight, Block, Unscaled};
+ghost use Rattle.transform.specs.Tree.{Words, PartlyReduced, reducedWords, nodeTwiddle, pairTwiddle, interpolateEight, Block, Unscaled};
 use crate::twiddles;
 use circle::index::inner::powers::power_point;
 use fields::m31::P;
 use fields::m31::inner::add;
-use fields::m31::inner::mul;
+use fields::m31::inner::add_partly;
 use fields::m31::inner::mul_by;
+use fields::m31::inner::mul_by_partly;
+use fields::m31::inner::mul_partly;
+use fields::m31::inner::partial_reduce;
 use fields::m31::inner::sub;
+use fields::m31::inner::sub_partly;
 use orders::utils::inner::two_to;
 
 const TWO_POW_31: u32 = 2147483648;
@@ -35,62 +39,79 @@ fn inverse_butterflies(block: &mut [u32], half: usize, t: u32)
     }
 }
 
+// The same where P may stand for 0, before and after it.
+fn inverse_butterflies_partly(block: &mut [u32], half: usize, t: u32)
+    requires { ⌜ (length (now block) ≡ half + half) × (t < P) × PartlyReduced (now block) ⌝ }
+    ensures { λ _. ⌜ (reducedWords (now (block .exit)) ≡ inverseButterflies words31 half t (reducedWords (now (block .entry)))) × PartlyReduced (now (block .exit)) ⌝ }
+{
+    let mut q: usize = 0;
+    while q < half {
+        let other = half + q;
+        let u = block[q];
+        let v = block[other];
+        block[q] = add_partly(u, v);
+        block[other] = mul_by_partly(sub_partly(u, v), t);
+        q += 1;
+    }
+}
+
 // One layer: each of so many blocks of two halves, with the inverse twiddles from a node on.
 fn layer(column: &mut [u32], tree: &[u32], node: usize, count: usize, half: usize)
-    requires { ⌜ (length (now column) ≡ count * (half + half)) × (node + count ≤ length (now tree)) × Words (now column) × Words (now tree) ⌝ }
-    ensures { λ _. ⌜ now (column .exit) ≡ blocks count (half + half) (λ j. inverseButterflies words31 half (getD (now (tree .entry)) j 0)) node (now (column .entry)) ⌝ }
+    requires { ⌜ (length (now column) ≡ count * (half + half)) × (node + count ≤ length (now tree)) × PartlyReduced (now column) × Words (now tree) ⌝ }
+    ensures { λ _. ⌜ (reducedWords (now (column .exit)) ≡ blocks count (half + half) (λ j. inverseButterflies words31 half (getD (now (tree .entry)) j 0)) node (reducedWords (now (column .entry)))) × PartlyReduced (now (column .exit)) ⌝ }
 {
     let mut b: usize = 0;
+    let mut start: usize = 0;
     while b < count {
-        let start = b * (half + half);
         let end = start + (half + half);
-        inverse_butterflies(&mut column[start..end], half, tree[node + b]);
+        inverse_butterflies_partly(&mut column[start..end], half, tree[node + b]);
+        start = end;
         b += 1;
     }
 }
 
 // Two layers on four words: v and -v for the pairs, w for the halves.
 fn four(block: &mut [u32], w: u32, v: u32)
-    requires { ⌜ (length (now block) ≡ 4) × (w < P) × (v < P) × Words (now block) ⌝ }
-    ensures { λ _. ⌜ now (block .exit) ≡ interpolateBlock words31 2 (pairTwiddle w v (negP v)) 0 (now (block .entry)) ⌝ }
+    requires { ⌜ (length (now block) ≡ 4) × (w < P) × (v < P) × PartlyReduced (now block) ⌝ }
+    ensures { λ _. ⌜ (reducedWords (now (block .exit)) ≡ interpolateBlock words31 2 (pairTwiddle w v (negP v)) 0 (reducedWords (now (block .entry)))) × PartlyReduced (now (block .exit)) ⌝ }
 {
     let a = block[0];
     let b = block[1];
     let c = block[2];
     let d = block[3];
-    let p = add(a, b);
-    let q = mul(sub(a, b), v);
-    let m = add(c, d);
-    let n = mul(sub(d, c), v);
-    block[0] = add(p, m);
-    block[1] = add(q, n);
-    block[2] = mul(sub(p, m), w);
-    block[3] = mul(sub(q, n), w);
+    let p = add_partly(a, b);
+    let q = mul_partly(sub_partly(a, b), v);
+    let m = add_partly(c, d);
+    let n = mul_partly(sub_partly(d, c), v);
+    block[0] = add_partly(p, m);
+    block[1] = add_partly(q, n);
+    block[2] = mul_partly(sub_partly(p, m), w);
+    block[3] = mul_partly(sub_partly(q, n), w);
 }
 
 // The same with -v and v for the pairs.
 fn four_turned(block: &mut [u32], w: u32, v: u32)
-    requires { ⌜ (length (now block) ≡ 4) × (w < P) × (v < P) × Words (now block) ⌝ }
-    ensures { λ _. ⌜ now (block .exit) ≡ interpolateBlock words31 2 (pairTwiddle w (negP v) v) 0 (now (block .entry)) ⌝ }
+    requires { ⌜ (length (now block) ≡ 4) × (w < P) × (v < P) × PartlyReduced (now block) ⌝ }
+    ensures { λ _. ⌜ (reducedWords (now (block .exit)) ≡ interpolateBlock words31 2 (pairTwiddle w (negP v) v) 0 (reducedWords (now (block .entry)))) × PartlyReduced (now (block .exit)) ⌝ }
 {
     let a = block[0];
     let b = block[1];
     let c = block[2];
     let d = block[3];
-    let p = add(a, b);
-    let q = mul(sub(b, a), v);
-    let m = add(c, d);
-    let n = mul(sub(c, d), v);
-    block[0] = add(p, m);
-    block[1] = add(q, n);
-    block[2] = mul(sub(p, m), w);
-    block[3] = mul(sub(q, n), w);
+    let p = add_partly(a, b);
+    let q = mul_partly(sub_partly(b, a), v);
+    let m = add_partly(c, d);
+    let n = mul_partly(sub_partly(c, d), v);
+    block[0] = add_partly(p, m);
+    block[1] = add_partly(q, n);
+    block[2] = mul_partly(sub_partly(p, m), w);
+    block[3] = mul_partly(sub_partly(q, n), w);
 }
 
 // The first two layers on the eight words below two siblings, which hold the inverses of x and y of one point.
 fn eight(block: &mut [u32], x: u32, y: u32)
-    requires { ⌜ (length (now block) ≡ 8) × (x < P) × (y < P) × Words (now block) ⌝ }
-    ensures { λ _. ⌜ now (block .exit) ≡ interpolateEight x y (now (block .entry)) ⌝ }
+    requires { ⌜ (length (now block) ≡ 8) × (x < P) × (y < P) × PartlyReduced (now block) ⌝ }
+    ensures { λ _. ⌜ (reducedWords (now (block .exit)) ≡ interpolateEight x y (reducedWords (now (block .entry)))) × PartlyReduced (now (block .exit)) ⌝ }
 {
     four(&mut block[0..4], x, y);
     four_turned(&mut block[4..8], y, x);
@@ -98,8 +119,8 @@ fn eight(block: &mut [u32], x: u32, y: u32)
 
 // The first two layers of so many blocks of eight words, below the nodes from `node` on.
 fn eights(column: &mut [u32], tree: &[u32], node: usize, count: usize)
-    requires { ⌜ (length (now column) ≡ count * 8) × (2 * (node + count) ≤ length (now tree)) × Words (now column) × Words (now tree) ⌝ }
-    ensures { λ _. ⌜ now (column .exit) ≡ blocks count 8 (λ j. interpolateEight (getD (now (tree .entry)) (2 * j) 0) (getD (now (tree .entry)) (2 * j + 1) 0)) node (now (column .entry)) ⌝ }
+    requires { ⌜ (length (now column) ≡ count * 8) × (2 * (node + count) ≤ length (now tree)) × PartlyReduced (now column) × Words (now tree) ⌝ }
+    ensures { λ _. ⌜ (reducedWords (now (column .exit)) ≡ blocks count 8 (λ j. interpolateEight (getD (now (tree .entry)) (2 * j) 0) (getD (now (tree .entry)) (2 * j + 1) 0)) node (reducedWords (now (column .entry)))) × PartlyReduced (now (column .exit)) ⌝ }
 {
     let mut b: usize = 0;
     while b < count {
@@ -113,8 +134,8 @@ fn eights(column: &mut [u32], tree: &[u32], node: usize, count: usize)
 
 // A block of 2^k words below node i, layer by layer; 2^k times the coefficients.
 fn layers(column: &mut [u32], tree: &[u32], i: usize, k: u32)
-    requires { ⌜ Block (now column) (now tree) i k ⌝ }
-    ensures { λ _. ⌜ now (column .exit) ≡ interpolateBlock words31 k (nodeTwiddle (now (tree .entry))) i (now (column .entry)) ⌝ }
+    requires { ⌜ Block (reducedWords (now column)) (now tree) i k × PartlyReduced (now column) ⌝ }
+    ensures { λ _. ⌜ (reducedWords (now (column .exit)) ≡ interpolateBlock words31 k (nodeTwiddle (now (tree .entry))) i (reducedWords (now (column .entry)))) × PartlyReduced (now (column .exit)) ⌝ }
 {
     let mut count = column.len() / 4;
     let mut node = i * count;
@@ -129,17 +150,17 @@ fn layers(column: &mut [u32], tree: &[u32], i: usize, k: u32)
     }
 }
 
-// a 2^s modulo P: since 2^31 is 1, its 31 bits turned by s places.
+// a 2^s modulo P: since 2^31 is 1, its 31 bits turned by s places. P, which stands for 0, stays P and is reduced.
 fn turned(a: u32, s: u32) -> u32
-    requires { ⌜ (a < P) × (0 < s) × (s < 31) ⌝ }
+    requires { ⌜ (a ≤ P) × (0 < s) × (s < 31) ⌝ }
     ensures { λ r. ⌜ r ≡ mulP a (2 ^ s) ⌝ }
 {
-    (a << s) % TWO_POW_31 + (a >> (31 - s))
+    partial_reduce((a << s) % TWO_POW_31 + (a >> (31 - s)))
 }
 
 // Each word times 2^s.
 fn scale(column: &mut [u32], s: u32)
-    requires { ⌜ (0 < s) × (s < 31) × Words (now column) ⌝ }
+    requires { ⌜ (0 < s) × (s < 31) × PartlyReduced (now column) ⌝ }
     ensures { λ _. ⌜ now (column .exit) ≡ scaled words31 (2 ^ s) (now (column .entry)) ⌝ }
 {
     let mut i: usize = 0;

@@ -1,14 +1,16 @@
 use Prim.Native.Nat.{ℕ, _/_, _^_, _<_}
-use mathlib.Core.Path.{refl, sym, _∙_, ap}
+use mathlib.Core.Path.{refl, sym, _∙_, ap, subst}
+use mathlib.Core.List.{List}
 use native.Mathlib.Omega.{arith}
 use lib.ListN.{length}
 use borrow.Author.Needs.{needs}
 use borrow.Fn.Kinds.{In}
 use borrow.Fn.PlainCycle.{Measures, is, falls, and}
 use Rattle.fields.specs.Words.{words31}
-use Rattle.column.specs.Butterflies.{scaled}
-use Rattle.transform.specs.Tree.{nodeTwiddle}
-use Rattle.transform.proofs.WordLaws.{words-interpolate}
+use Rattle.column.specs.Butterflies.{interpolateBlock, scaled}
+use Rattle.transform.specs.Tree.{nodeTwiddle, Block}
+use Rattle.transform.proofs.Partly.{partly-words, reduced-same}
+use Rattle.transform.proofs.Scaling.{scaled-reduced}
 use Rattle.transform.proofs.HalfBlocks.{halves-size, node-room, lower-length, middle-length, lower-block, upper-block, joined-length, joined-words, block-interpolated}
 use Rattle.transform.proofs.interpolation.block.Reads as block
 use Rattle.transform.proofs.interpolation.block.Kinds as block-kinds
@@ -38,7 +40,11 @@ block-layers-requires : (t : ℕ) → block-lts.Need-layers-requires (
   inverse-butterflies-reads.Asked,
   inverse-butterflies-reads.Learnt,
 ) (block-at t) block.Post
-block-layers-requires t c κs = c .before .before .before .before .pre .1 .0
+block-layers-requires t c κs =
+    let s = c .before .before .before .before in
+    let block = s .pre .1 .0 in
+    let column = s .args .column .now in
+    (subst (λ (l : List ℕ). Block l (s .args .tree .now) (s .args .i) (s .args .k)) (sym (reduced-same column (block .words))) block, partly-words column (block .words))
 
 block-scale-requires : (t : ℕ) → block-lts.Need-scale-requires (
   layers-reads.Asked,
@@ -53,7 +59,7 @@ block-scale-requires : (t : ℕ) → block-lts.Need-scale-requires (
 block-scale-requires t c κs =
     let s = c .before .before .before .before .before .before .before .before in
     let layers = c .before .before .before .layers in
-    (s .pre .1 .1, s .pre .1 .2, λ j. rw (layers .ensures) (words-interpolate (s .args .k) (nodeTwiddle (s .args .tree .now)) (s .args .i) (s .args .column .now) (s .pre .1 .0 .words) j))
+    (s .pre .1 .1, s .pre .1 .2, layers .ensures .1)
 
 block-same-length : (t : ℕ) → block-lts.Need-same-length (
   layers-reads.Asked,
@@ -79,7 +85,10 @@ block-returns : (t : ℕ) → block-lts.Need-returns (
 ) (block-at t) block.Post
 block-returns t c =
     let s = c .before .before .before .before .before .before .before .before .before .before .before in
-    c .before .before .scale .ensures ∙ ap (scaled words31 (2 ^ s .args .s)) (c .before .before .before .before .before .before .layers .ensures)
+    let layers = c .before .before .before .before .before .before .layers in
+    let column = s .args .column .now in
+    c .before .before .scale .ensures ∙ scaled-reduced (2 ^ s .args .s) (layers .last .0)
+    ∙ ap (scaled words31 (2 ^ s .args .s)) (layers .ensures .0 ∙ ap (interpolateBlock words31 (s .args .k) (nodeTwiddle (s .args .tree .now)) (s .args .i)) (reduced-same column (s .pre .1 .0 .words)))
 
 block-slice-relend-prefix-block : (t : ℕ) → block-lts.Need-slice-relend-prefix-block (
   layers-reads.Asked,

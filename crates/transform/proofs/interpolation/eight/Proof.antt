@@ -3,8 +3,8 @@ use borrow.Author.Needs.{needs}
 use Rattle.fields.specs.Words.{negP, words31}
 use Rattle.column.specs.Butterflies.{interpolateBlock}
 use Rattle.transform.specs.Tree.{pairTwiddle}
-use Rattle.transform.proofs.WordLaws.{words-take}
-use Rattle.transform.proofs.Eights.{first-length, second-length, second-words, both-parts}
+use Rattle.transform.proofs.Partly.{partly-take}
+use Rattle.transform.proofs.Eights.{first-length, second-length, second-partly, partly-parts}
 use Rattle.transform.proofs.interpolation.eight.Statement.{statement}
 use Rattle.transform.proofs.interpolation.eight.Tie as tie
 
@@ -20,7 +20,7 @@ part-four-end c = search needs
 four-requires : tie.Need-four-requires
 four-requires c κs =
     let s = c .before .before in
-    (first-length (s .args .block .now) (s .pre .0), search needs, search needs, words-take 4 (s .args .block .now) (s .pre .3))
+    (first-length (s .args .block .now) (s .pre .0), search needs, search needs, partly-take 4 (s .args .block .now) (s .pre .3))
 
 sub-four-turned : tie.Need-sub-four-turned
 sub-four-turned c = search needs
@@ -36,7 +36,7 @@ four-turned-requires c κs =
     let four = c .before .before .before .four in
     let s = c .before .before .before .before .before .before in
     let size = four .kept .0 ∙ first-length (s .args .block .now) (s .pre .0) in
-    (second-length (s .args .block .now) (s .pre .0) (four .last .0) size, search needs, search needs, second-words (s .args .block .now) (s .pre .0) (four .last .0) size (s .pre .3))
+    (second-length (s .args .block .now) (s .pre .0) (four .last .0) size, search needs, search needs, second-partly (s .args .block .now) (s .pre .0) (four .last .0) size (s .pre .3))
 
 same-length : tie.Need-same-length
 same-length c = search needs
@@ -48,8 +48,9 @@ returns c =
     let s = c .before .before .before .before .before .before .before .before .before in
     let x = s .args .x in
     let y = s .args .y in
-    both-parts (s .args .block .now) (s .pre .0) (four .last .0) (four .kept .0 ∙ first-length (s .args .block .now) (s .pre .0))
-    (interpolateBlock words31 2 (pairTwiddle x y (negP y)) 0) (interpolateBlock words31 2 (pairTwiddle y (negP x) x) 0) (turned .last .0) (four .ensures) (turned .ensures)
+    partly-parts (s .args .block .now) (s .pre .0) (four .last .0) (four .kept .0 ∙ first-length (s .args .block .now) (s .pre .0))
+    (interpolateBlock words31 2 (pairTwiddle x y (negP y)) 0) (interpolateBlock words31 2 (pairTwiddle y (negP x) x) 0) (turned .last .0)
+    (four .ensures .0) (four .ensures .1) (turned .ensures .0) (turned .ensures .1)
 
 pub eight-spec : {M : Type 1} → statement M
 eight-spec =

@@ -1,5 +1,5 @@
 use Prim.Native.Nat.{ℕ, _+_, _-_, _*_, _≤_}
-use mathlib.Core.Path.{refl}
+use mathlib.Core.Path.{_≡_, refl}
 use mathlib.Core.List.{List}
 use native.Mathlib.Nat as N
 use native.Mathlib.Omega.{arith}
@@ -8,10 +8,9 @@ use borrow.Author.Needs.{needs}
 use Rattle.fields.specs.Words.{negP, words31}
 use Rattle.column.specs.Butterflies.{interpolateBlock}
 use Rattle.column.specs.Inverse.{interpolate-length}
-use Rattle.transform.specs.Tree.{pairTwiddle, interpolateEight}
-use Rattle.transform.proofs.WordLaws.{words-interpolate}
-use Rattle.transform.proofs.Eights.{eight-length, eight-words}
-use Rattle.transform.proofs.BlockLoops.{Turn, turn-start, turn-end, inside, part-length, part-words, turn-next}
+use Rattle.transform.specs.Tree.{reducedWords, pairTwiddle, interpolateEight}
+use Rattle.transform.proofs.Eights.{eight-length}
+use Rattle.transform.proofs.BlockLoops.{turn-end, PartlyTurn, partly-start, partly-same, partly-inside, partly-part-length, partly-part, partly-next}
 use Rattle.transform.proofs.interpolation.eights.Statement.{statement}
 use Rattle.transform.proofs.interpolation.eights.Tie as tie
 
@@ -26,27 +25,28 @@ abbrev second : ℕ → ℕ → List ℕ → List ℕ
 second x y = interpolateBlock words31 2 (pairTwiddle y (negP x) x) 0
 
 abbrev Inv-loop : tie.InvT-loop
-Inv-loop column₀ tree node count b₀ column b = Turn count 8 (turned tree) node column₀ b column
+Inv-loop column₀ tree node count b₀ column b = PartlyTurn count 8 (turned tree) node column₀ b column
 
 abbrev μ-loop : tie.MeasureT-loop
 μ-loop column₀ tree node count b₀ column b = count - b
 
-in-column : (d : tie.In-loop Inv-loop μ-loop) → 8 * d .before .loop .b + 8 ≤ length (d .before .loop .column)
+in-column : (d : tie.In-loop Inv-loop μ-loop)
+    → (8 * d .before .loop .b + 8 ≤ length (d .before .loop .column)) × (length (d .before .loop .column) ≡ length (d .before .before .before .before .args .column .now))
 in-column d =
     let s = d .before .before .before .before in
-    inside (s .args .count) 8 (turned (s .args .tree .now)) (s .args .node) (s .args .column .now) (s .pre .0)
+    partly-inside (s .args .count) 8 (turned (s .args .tree .now)) (s .args .node) (s .args .column .now) (s .pre .0)
     (d .before .loop .b) (d .before .loop .column) (d .before .loop .inv) (d .loop-test .taken) _ _ (N.mul-comm 8 (d .before .loop .b)) refl
 
 loop-holds : tie.Need-loop-holds Inv-loop μ-loop
 loop-holds c =
-    let s = c .before .before .args in
-    turn-start (s .count) 8 (turned (s .tree .now)) (s .node) (s .column .now)
+    let s = c .before .before in
+    partly-start (s .args .count) 8 (turned (s .args .tree .now)) (s .args .node) (s .args .column .now) (s .pre .2)
 
 mul-start : tie.Need-mul-start Inv-loop μ-loop
-mul-start c = omega (arith, in-column c)
+mul-start c = omega (arith, in-column c .0, in-column c .1)
 
 add-end : tie.Need-add-end Inv-loop μ-loop
-add-end c = omega (arith, in-column c)
+add-end c = omega (arith, in-column c .0, in-column c .1)
 
 add-child : tie.Need-add-child Inv-loop μ-loop
 add-child c = omega arith
@@ -55,7 +55,7 @@ mul-child : tie.Need-mul-child Inv-loop μ-loop
 mul-child c = omega arith
 
 mul-eight : tie.Need-mul-eight Inv-loop μ-loop
-mul-eight c = omega (arith, in-column c)
+mul-eight c = omega (arith, in-column c .0, in-column c .1)
 
 sub-eight : tie.Need-sub-eight Inv-loop μ-loop
 sub-eight c = search needs
@@ -64,7 +64,7 @@ part-eight-start : tie.Need-part-eight-start Inv-loop μ-loop
 part-eight-start c = search needs
 
 part-eight-end : tie.Need-part-eight-end Inv-loop μ-loop
-part-eight-end c = in-column c
+part-eight-end c = in-column c .0
 
 mul-eight-2 : tie.Need-mul-eight-2 Inv-loop μ-loop
 mul-eight-2 c = omega arith
@@ -87,14 +87,12 @@ eight-requires c κs =
     let s = d .before .before .before .before in
     let tree = s .args .tree .now in
     let child = 2 * (s .args .node + d .before .loop .b) in (
-      part-length (s .args .count) 8 (turned tree) (s .args .node) (s .args .column .now) (s .pre .0)
+      partly-part-length (s .args .count) 8 (turned tree) (s .args .node) (s .args .column .now) (s .pre .0)
           (d .before .loop .b) (d .before .loop .column) (d .before .loop .inv) (d .loop-test .taken) _ _ (N.mul-comm 8 (d .before .loop .b)) refl,
       s .pre .3 child,
       s .pre .3 (child + 1),
-      part-words (s .args .count) 8 (turned tree) (s .args .node) (s .args .column .now) (s .pre .0)
-          (d .before .loop .b) (d .before .loop .column) (d .before .loop .inv) (d .loop-test .taken) _ _ (N.mul-comm 8 (d .before .loop .b)) refl
-          (λ j l w. let x = getD tree (2 * j) 0 in let y = getD tree (2 * j + 1) 0 in
-          eight-words (first x y) (second x y) (λ l w. words-interpolate 2 _ 0 l w) (λ l w. words-interpolate 2 _ 0 l w) l w) (s .pre .2),
+      partly-part (s .args .count) 8 (turned tree) (s .args .node) (s .args .column .now) (s .pre .0)
+          (d .before .loop .b) (d .before .loop .column) (d .before .loop .inv) (d .loop-test .taken) _ _ (N.mul-comm 8 (d .before .loop .b)) refl,
     )
 
 add-b : tie.Need-add-b Inv-loop μ-loop
@@ -108,20 +106,24 @@ loop-again c =
     let d = c .before .before .before .before .before .before in
     let s = d .before .before .before .before in
     let tree = s .args .tree .now in
-    turn-next (s .args .count) 8 (turned tree) (s .args .node) (s .args .column .now) (s .pre .0)
+    partly-next (s .args .count) 8 (turned tree) (s .args .node) (s .args .column .now) (s .pre .0)
     (d .before .loop .b) (d .before .loop .column) (d .before .loop .inv) (d .loop-test .taken) _ _ (N.mul-comm 8 (d .before .loop .b)) refl
     (λ j l e. let x = getD tree (2 * j) 0 in let y = getD tree (2 * j + 1) 0 in
     eight-length (first x y) (second x y) (λ l e. interpolate-length words31 2 _ 0 l e) (λ l e. interpolate-length words31 2 _ 0 l e) l e)
-    (c .before .before .eight .last .0) (c .before .before .eight .ensures)
+    (c .before .before .eight .last .0) (c .before .before .eight .ensures .0) (c .before .before .eight .ensures .1)
 
 same-length : tie.Need-same-length Inv-loop μ-loop
-same-length c = c .before .loop .inv .same
+same-length c =
+    let s = c .before .before .before .before .args in
+    partly-same (s .count) 8 (turned (s .tree .now)) (s .node) (s .column .now) (c .before .loop .b) (c .before .loop .column) (c .before .loop .inv)
 
 returns : tie.Need-returns Inv-loop μ-loop
 returns c =
-    let s = c .before .before .before .before .args in
-    turn-end (s .count) 8 (turned (s .tree .now)) (s .node) (s .column .now)
-    (c .before .loop .b) (c .before .loop .column) (c .before .loop .inv) (c .loop-test .left)
+    let s = c .before .before .before .before .args in (
+      turn-end (s .count) 8 (turned (s .tree .now)) (s .node) (reducedWords (s .column .now))
+          (c .before .loop .b) (reducedWords (c .before .loop .column)) (c .before .loop .inv .turn) (c .loop-test .left),
+      c .before .loop .inv .partly,
+    )
 
 pub eights-spec : {M : Type 1} → statement M
 eights-spec =

@@ -6,8 +6,9 @@ use Rattle.fields.specs.Words.{addP, negP, words31}
 use Rattle.fields.specs.Inverse.{m31-representation}
 use Rattle.circle.specs.Point.{pointOf}
 use Rattle.column.specs.Butterflies.{interpolateBlock}
-use Rattle.transform.specs.Tree.{pairTwiddle}
+use Rattle.transform.specs.Tree.{reducedWords, pairTwiddle}
 use Rattle.transform.specs.Elements.{column-words}
+use Rattle.transform.proofs.Partly.{partly-words}
 use Rattle.transform.proofs.SmallSizes.{four-interpolated-values, two-start}
 use Rattle.transform.proofs.interpolation.interpolate_four.Statement.{statement}
 use Rattle.transform.proofs.interpolation.interpolate_four.Tie as tie
@@ -26,7 +27,7 @@ four-turned-requires : tie.Need-four-turned-requires
 four-turned-requires c κs =
     let s = c .before .before .before .before in
     let word = sum-below (c .before .add .result) (c .before .before .power-point .result .x .0) (c .before .add .ensures) in
-    (s .pre .size, word, word, column-words 2 (s .args .column .now) (s .pre))
+    (s .pre .size, word, word, partly-words (s .args .column .now) (column-words 2 (s .args .column .now) (s .pre)))
 
 same-length : tie.Need-same-length
 same-length c = search needs
@@ -38,7 +39,7 @@ returns c =
     let point = c .before .before .before .before .before .power-point in
     let s = c .before .before .before .before .before .before .before in
     four-interpolated-values (point .result .x .0) (two-start (pointOf (point .result)) (point .ensures .0)) (s .args .column .now) (four .last .0) (s .pre)
-    (four .ensures ∙ ap (λ (x : ℕ). interpolateBlock words31 2 (pairTwiddle x (negP x) x) 0 (s .args .column .now)) (sum .ensures))
+    (four .ensures .0 ∙ ap (λ (x : ℕ). interpolateBlock words31 2 (pairTwiddle x (negP x) x) 0 (reducedWords (s .args .column .now))) (sum .ensures)) (four .ensures .1)
 
 pub interpolate-four-spec : {M : Type 1} → statement M
 interpolate-four-spec =

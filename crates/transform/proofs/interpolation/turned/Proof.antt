@@ -1,23 +1,35 @@
+use mathlib.Core.Path.{_∙_}
 use native.Mathlib.Omega.{arith}
 use borrow.Author.Needs.{needs}
-use Rattle.transform.proofs.Scaling.{turned-bits}
+use Rattle.transform.proofs.Scaling.{turned-most, turned-bits}
 use Rattle.transform.proofs.interpolation.turned.Statement.{statement}
 use Rattle.transform.proofs.interpolation.turned.Tie as tie
 
-shl-result : tie.Need-shl-result
-shl-result c = search needs
+shl-partial-reduce : tie.Need-shl-partial-reduce
+shl-partial-reduce c = search needs
 
-sub-result : tie.Need-sub-result
-sub-result c = search needs
+sub-partial-reduce : tie.Need-sub-partial-reduce
+sub-partial-reduce c = search needs
 
-shr-result : tie.Need-shr-result
-shr-result c = search needs
+shr-partial-reduce : tie.Need-shr-partial-reduce
+shr-partial-reduce c = search needs
 
-add-result : tie.Need-add-result
-add-result c = omega (arith, turned-bits (c .args .a) (c .args .s) (c .pre .0) (c .pre .2))
+add-partial-reduce : tie.Need-add-partial-reduce
+add-partial-reduce c = omega (arith, turned-most (c .args .a) (c .args .s) (c .pre .0) (c .pre .2))
+
+partial-reduce-requires : tie.Need-partial-reduce-requires
+partial-reduce-requires c κs = omega (arith, turned-most (c .args .a) (c .args .s) (c .pre .0) (c .pre .2))
 
 returns : tie.Need-returns
-returns c = turned-bits (c .args .a) (c .args .s) (c .pre .0) (c .pre .2)
+returns c = let s = c .before in c .partial-reduce .ensures ∙ turned-bits (s .args .a) (s .args .s) (s .pre .0) (s .pre .2)
 
 pub turned-spec : {M : Type 1} → statement M
-turned-spec = tie.close (tie.spec shl-result sub-result shr-result add-result returns)
+turned-spec =
+    tie.close
+    (tie.spec
+    shl-partial-reduce
+    sub-partial-reduce
+    shr-partial-reduce
+    add-partial-reduce
+    partial-reduce-requires
+    returns)
