@@ -1,5 +1,5 @@
 -- The points of the indices 2^k, by doubling G k times.
-use Prim.Native.Nat.{ℕ, zero, suc, _*_, _^_, _<_}
+use Prim.Native.Nat.{ℕ, zero, suc, _^_, _<_}
 use mathlib.Core.Path.{_≡_, sym, _∙_, ap, subst}
 use native.Mathlib.Nat as N
 use native.Mathlib.Omega.{arith}

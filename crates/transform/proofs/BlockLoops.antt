@@ -8,7 +8,7 @@ use lib.ListN.{length, take, drop, length-drop}
 use lib.Seq.{length-take-le, take-append-add, take-at}
 use Rattle.column.specs.Blocks.{blocks, Keeps, blocks-length, blocks-next}
 use Rattle.transform.specs.Tree.{Words, PartlyReduced, reducedWords}
-use Rattle.transform.proofs.WordLaws.{words-append, words-take, words-drop, words-blocks}
+use Rattle.transform.proofs.WordLaws.{words-append}
 use Rattle.transform.proofs.Partly.{partly-take, partly-drop, partly-spliced, reduced-length, reduced-part, reduced-spliced}
 
 -- F on the blocks of w words of c, from number i on, count of them
@@ -39,10 +39,6 @@ module _ (count w : ℕ) (F : ℕ → List ℕ → List ℕ) (i : ℕ) (c : List
 
     pub part-length : length (take (end - start) (drop start column)) ≡ w
     part-length = length-take-le (end - start) (drop start column) (omega (arith, length-drop start column, inside)) ∙ width
-
-    pub part-words : ((j : ℕ) (d : List ℕ) → Words d → Words (F j d)) → Words c → Words (take (end - start) (drop start column))
-    part-words wf wc =
-        words-take (end - start) (drop start column) (words-drop start column (λ k. rw (t .is) (words-blocks b w F wf i c wc k)))
 
     pub turn-next : Keeps w F → (q : List ℕ) → q ≡ F (i + b) (take (end - start) (drop start column))
         → Turn (b + 1) (take start column ++ (q ++ drop (end - start) (drop start column)))

@@ -28,9 +28,6 @@ module _ (l : List ℕ) (e : length l ≡ 8) where
     pub second-length : length (take (8 - 4) (drop 4 middle)) ≡ 4
     second-length = ap length second ∙ rest
 
-    pub second-words : Words l → Words (take (8 - 4) (drop 4 middle))
-    second-words w k = rw second (words-drop 4 l w k)
-
     pub second-partly : PartlyReduced l → PartlyReduced (take (8 - 4) (drop 4 middle))
     second-partly p k = rw second (partly-drop 4 l p k)
 

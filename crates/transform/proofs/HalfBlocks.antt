@@ -12,7 +12,7 @@ use Rattle.column.specs.Butterflies.{butterflies, evaluateBlock, inverseButterf
 use Rattle.column.specs.Inverse.{interpolate-length, scaled-length, scaled-append}
 use Rattle.column.specs.Blocks.{butterflies-length, twoBlocks, layer-block, inverse-block}
 use Rattle.transform.specs.Tree.{Words, PartlyReduced, reducedWords, nodeTwiddle, Block}
-use Rattle.transform.proofs.WordLaws.{words-append, words-take, words-drop, words-scaled}
+use Rattle.transform.proofs.WordLaws.{words-take, words-drop, words-scaled}
 use Rattle.transform.proofs.Partly.{partly-take, partly-drop, reduced-length, reduced-below, reduced-take, reduced-drop}
 use Rattle.transform.proofs.Layers.{line-node}
 use Rattle.transform.proofs.Scaling.{butterflies-multiple}

@@ -10,8 +10,7 @@ use Rattle.fields.specs.Words.{negP, words31}
 use Rattle.column.specs.Butterflies.{inverseButterflies, interpolateBlock}
 use Rattle.column.specs.Inverse.{interpolate-length}
 use Rattle.column.specs.Blocks.{blocks, blocks-length, blocks-equal, blocks-pair, twoBlocks, one-block, interpolate-layer}
-use Rattle.transform.specs.Tree.{Words, nodeTwiddle, pairTwiddle, interpolateEight, Block}
-use Rattle.transform.proofs.WordLaws.{words-interpolate, words-blocks}
+use Rattle.transform.specs.Tree.{nodeTwiddle, pairTwiddle, interpolateEight, Block}
 use Rattle.transform.proofs.Fours.{interpolate-two-layers}
 use Rattle.transform.proofs.Layers.{Parts, all-words, nodes-room, count-even, node-even, parts-doubled, x, y, Siblings, siblings, line-node}
 
@@ -75,9 +74,6 @@ module _ (column₀ tree : List ℕ) (i k : ℕ) (b : Block column₀ tree i k) 
     done-length =
         ap length (d .is)
         ∙ blocks-length count (2 ^ t) (interpolateBlock words31 t (nodeTwiddle tree)) (λ j l e. interpolate-length words31 t (nodeTwiddle tree) j l e) node column₀ (omega (arith, size₀))
-
-    pub done-words : Words column
-    done-words q = rw (d .is) (words-blocks count (2 ^ t) (interpolateBlock words31 t (nodeTwiddle tree)) (λ j l w. words-interpolate t (nodeTwiddle tree) j l w) node column₀ (b .words) q)
 
     module _ (h : t < k) (half : ℕ) (two : half ≡ 2 ^ t) where
       pair : count ≡ count / 2 + count / 2

@@ -10,8 +10,7 @@ use lib.Pow as W
 use Rattle.fields.specs.Words.{negP, words31}
 use Rattle.column.specs.Butterflies.{butterflies, evaluateBlock}
 use Rattle.column.specs.Blocks.{blocks, blocks-length, blocks-equal, blocks-pair, twoBlocks, one-block, butterflies-length, evaluate-layer}
-use Rattle.transform.specs.Tree.{Words, turned, nodeTwiddle, pairTwiddle, evaluateEight, Block}
-use Rattle.transform.proofs.WordLaws.{words-butterflies, words-blocks}
+use Rattle.transform.specs.Tree.{turned, nodeTwiddle, pairTwiddle, evaluateEight, Block}
 use Rattle.transform.proofs.Fours.{evaluate-two-layers}
 
 -- ---- sizes
@@ -132,7 +131,6 @@ module _ (column₀ tree : List ℕ) (i k : ℕ) (b : Block column₀ tree i k) 
     pub parts : Parts tree i k t count node
     pub low : 2 ≤ t
     pub same : length column ≡ length column₀
-    pub words : Words column
     pub todo : blocks count (2 ^ t) (evaluateBlock words31 t (nodeTwiddle tree)) node column ≡ evaluateBlock words31 k (nodeTwiddle tree) i column₀
 
   pub left-start : Left k 1 i column₀
@@ -140,7 +138,6 @@ module _ (column₀ tree : List ℕ) (i k : ℕ) (b : Block column₀ tree i k) 
     parts = parts-whole tree i k;
     low = omega (arith, b .least);
     same = refl;
-    words = b .words;
     todo = one-block (2 ^ k) (evaluateBlock words31 k (nodeTwiddle tree)) i column₀ (b .size);
   }
 
@@ -167,7 +164,6 @@ module _ (column₀ tree : List ℕ) (i k : ℕ) (b : Block column₀ tree i k) 
         parts = parts-halved tree i k t count node (l .parts) s suc-s;
         low = omega arith;
         same = ap length is ∙ blocks-length count (half + half) F (λ j d. butterflies-length words31 half (getD tree j 0) d) node column (omega (arith, left-size)) ∙ l .same;
-        words = λ q. rw is (words-blocks count (half + half) F (λ j d w. words-butterflies half (getD tree j 0) d) node column (l .words) q);
         todo = ap (blocks (2 * count) (2 ^ s) (evaluateBlock words31 s (nodeTwiddle tree)) (2 * node)) (is ∙ as-layer)
             ∙ ap (λ (n : ℕ). blocks n (2 ^ s) (evaluateBlock words31 s (nodeTwiddle tree)) (2 * node) (blocks count (2 ^ s + 2 ^ s) (λ j. butterflies words31 (2 ^ s) (nodeTwiddle tree s j)) node column)) (omega arith)
             ∙ evaluate-layer words31 (nodeTwiddle tree) s count node column (omega (arith, left-size, ap (λ (n : ℕ). count * n) (sym double ∙ ap (λ (d : ℕ). 2 ^ d) suc-s ∙ N.two-pow-succ s)))

@@ -1,15 +1,12 @@
 -- Words stay below P.
-use Prim.Native.Nat.{ℕ, zero, suc, _+_, _-_, _*_, _%_, _^_, _<_}
-use mathlib.Core.Path.{_≡_, sym, _∙_, ap}
+use Prim.Native.Nat.{ℕ, zero, suc, _+_, _*_, _^_, _<_}
 use mathlib.Core.List.{List, [], _∷_, _++_, zipWith}
-use native.Mathlib.Nat as N
 use lib.ListN.{getD, take, drop, set}
 use lib.Seq.{getD-drop}
 use Rattle.algebra.specs.M31.{P, P-pos}
 use Rattle.fields.specs.Words.{words31}
 use Rattle.fields.specs.Inverse.{m31-representation}
-use Rattle.column.specs.Butterflies.{onHalves, butterflySum, butterflyDifference, butterflies, evaluateBlock, inverseSum, inverseDifference, inverseButterflies, interpolateBlock, scaled}
-use Rattle.column.specs.Blocks.{blocks}
+use Rattle.column.specs.Butterflies.{onHalves, butterflySum, butterflyDifference, evaluateBlock, inverseSum, inverseDifference, inverseButterflies, scaled}
 use Rattle.transform.specs.Tree.{Words}
 
 -- a property of each word; past the end stands 0
@@ -70,13 +67,6 @@ inverse-difference-word : (t x y : ℕ) → inverseDifference words31 t x y < P
 unfolding inverseDifference
 inverse-difference-word t x y = m31-representation .mul-reduced _ _
 
-pub words-butterflies : (half w : ℕ) (c : List ℕ) → Words (butterflies words31 half w c)
-unfolding butterflies
-words-butterflies half w c =
-    words-append (onHalves (butterflySum words31 w) half c) (onHalves (butterflyDifference words31 w) half c)
-    (words-zip (butterflySum words31 w) (sum-word w) (take half c) (drop half c))
-    (words-zip (butterflyDifference words31 w) (difference-word w) (take half c) (drop half c))
-
 pub words-inverse : (half t : ℕ) (c : List ℕ) → Words (inverseButterflies words31 half t c)
 unfolding inverseButterflies
 words-inverse half t c =
@@ -94,24 +84,8 @@ words-evaluate (suc k) tw i c w =
     (words-evaluate k tw (2 * i) lower (words-zip (butterflySum words31 (tw k i)) (sum-word (tw k i)) (take (2 ^ k) c) (drop (2 ^ k) c)))
     (words-evaluate k tw (2 * i + 1) upper (words-zip (butterflyDifference words31 (tw k i)) (difference-word (tw k i)) (take (2 ^ k) c) (drop (2 ^ k) c)))
 
-pub words-interpolate : (k : ℕ) (tv : ℕ → ℕ → ℕ) (i : ℕ) (v : List ℕ) → Words v → Words (interpolateBlock words31 k tv i v)
-unfolding interpolateBlock
-words-interpolate zero tv i v w = w
-words-interpolate (suc k) tv i v w =
-    let a : List ℕ = interpolateBlock words31 k tv (2 * i) (take (2 ^ k) v) in
-    let b : List ℕ = interpolateBlock words31 k tv (2 * i + 1) (drop (2 ^ k) v) in
-    words-append (zipWith (inverseSum words31) a b) (zipWith (inverseDifference words31 (tv k i)) a b)
-    (words-zip (inverseSum words31) inverse-sum-word a b) (words-zip (inverseDifference words31 (tv k i)) (inverse-difference-word (tv k i)) a b)
-
 pub words-scaled : (s : ℕ) (c : List ℕ) → Words (scaled words31 s c)
 unfolding scaled
 words-scaled s [] k = P-pos
 words-scaled s (x ∷ c) zero = m31-representation .mul-reduced _ _
 words-scaled s (x ∷ c) (suc k) = words-scaled s c k
-
-pub words-blocks : (count w : ℕ) (F : ℕ → List ℕ → List ℕ) → ((j : ℕ) (d : List ℕ) → Words d → Words (F j d))
-    → (i : ℕ) (c : List ℕ) → Words c → Words (blocks count w F i c)
-unfolding blocks
-words-blocks zero w F h i c wc = wc
-words-blocks (suc count) w F h i c wc =
-    words-append (F i (take w c)) (blocks count w F (i + 1) (drop w c)) (h i (take w c) (words-take w c wc)) (words-blocks count w F h (i + 1) (drop w c) (words-drop w c wc))

@@ -15,7 +15,8 @@ use fields::m31::M31;
 use fields::m31::inner as m31;
 use orders::utils::inner::two_to;
 
-// p + step. The step stays the same through a loop, and no product needs more than the sum or difference that it goes into.
+// p + step, where the step stays the same through a loop. The second product of a coordinate may be P for 0: the difference
+// and the sum reduce it.
 fn add_step(p: CirclePoint, step: CirclePoint) -> CirclePoint
     requires { ⌜ (Reduced p) × (Reduced step) ⌝ }
     ensures { λ r. ⌜ (pointOf r ≡ plus words31 (pointOf p) (pointOf step)) × Reduced r ⌝ }

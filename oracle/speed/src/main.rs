@@ -9,14 +9,14 @@ mod twiddles;
 use measure::Row;
 use rows::ROWS;
 use std::process::ExitCode;
-use transform_rows::{avx2_rows, TRANSFORM_ROWS};
+use transform_rows::{avx2_rows, PARTLY_ROWS, TRANSFORM_ROWS};
 
 /// The rows are measured so many times one after the other, and the best times taken: a disturbance that lasts as long
 /// as a row doesn't decide it.
 const VISITS: usize = 3;
 
 fn main() -> ExitCode {
-    let rows = [ROWS, TRANSFORM_ROWS, avx2_rows()].concat();
+    let rows = [ROWS, TRANSFORM_ROWS, PARTLY_ROWS, avx2_rows()].concat();
     let visits = (0..VISITS).map(|_| rows.iter().map(|row| row()).collect());
     let better = |one: Vec<Row>, other: Vec<Row>| one.into_iter().zip(other).map(|(a, b)| a.better(b)).collect();
     let rows = visits.reduce(better).unwrap();

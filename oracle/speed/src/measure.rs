@@ -2,8 +2,11 @@
 
 use std::time::{Duration, Instant};
 
-/// A visit of a row takes about so long.
+/// A visit of a row takes about so long,
 const TIME: Duration = Duration::from_secs(1);
+
+/// and has at least so many rounds.
+const ROUNDS: usize = 5;
 
 pub struct Row {
     pub what: &'static str,
@@ -36,9 +39,11 @@ impl Row {
 pub fn best(elements: usize, mut rust: impl FnMut(), mut library: impl FnMut()) -> (f64, f64) {
     let start = Instant::now();
     let mut best = (f64::MAX, f64::MAX);
-    while start.elapsed() < TIME {
+    let mut rounds = 0;
+    while rounds < ROUNDS || start.elapsed() < TIME {
         best.0 = best.0.min(nanoseconds(&mut rust));
         best.1 = best.1.min(nanoseconds(&mut library));
+        rounds += 1;
     }
     (best.0 / elements as f64, best.1 / elements as f64)
 }

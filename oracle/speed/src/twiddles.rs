@@ -24,6 +24,19 @@ pub const fn mul(a: u32, b: u32) -> u32 {
     reduced((product as u32 & P) + (product >> 31) as u32)
 }
 
+/// Down to P, which stands for 0.
+#[inline(always)]
+pub const fn partly(sum: u32) -> u32 {
+    (sum & P) + (sum >> 31)
+}
+
+/// A product that may be P for 0: sums and differences that take it for their second number reduce it.
+#[inline(always)]
+pub const fn mul_partly(a: u32, b: u32) -> u32 {
+    let product = a as u64 * b as u64;
+    partly((product as u32 & P) + (product >> 31) as u32)
+}
+
 /// A product with half of `twice`, whose bits from 31 on are the upper half of the 64: both parts added, not reduced.
 #[inline(always)]
 pub const fn mul_twice(a: u32, twice: u32) -> u32 {
@@ -36,6 +49,14 @@ type Point = (u32, u32);
 #[inline(always)]
 const fn point_add((x, y): Point, (z, w): Point) -> Point {
     (sub(mul(x, z), mul(y, w)), add(mul(x, w), mul(y, z)))
+}
+
+/// The same with a point that stays the same through a loop, doubled.
+#[inline(always)]
+const fn point_add_twice((x, y): Point, (z, w): Point) -> Point {
+    let (xz, yw) = (reduced(mul_twice(x, z)), partly(mul_twice(y, w)));
+    let (xw, yz) = (reduced(mul_twice(x, w)), partly(mul_twice(y, z)));
+    (sub(xz, yw), add(xw, yz))
 }
 
 #[inline(always)]
@@ -59,11 +80,12 @@ pub const POWERS: [Point; 31] = {
 #[inline(always)]
 fn add_points(level: &mut [u32], count: usize, step: Point) {
     let (points, further) = level[..4 * count].split_at_mut(2 * count);
+    let twice = (2 * step.0, 2 * step.1);
     for c in 0..count {
         // Both parts have 2 * count words. With checks the compiler wouldn't take several points at a time.
         unsafe {
             let point = (*points.get_unchecked(2 * c), *points.get_unchecked(2 * c + 1));
-            (*further.get_unchecked_mut(2 * c), *further.get_unchecked_mut(2 * c + 1)) = point_add(point, step);
+            (*further.get_unchecked_mut(2 * c), *further.get_unchecked_mut(2 * c + 1)) = point_add_twice(point, twice);
         }
     }
 }

@@ -7,135 +7,51 @@ ghost use Rattle.circle.specs.Index.{indexPoint};
 use crate::point::CirclePoint;
 use fields::m31::M31;
 
+fn constant(x: u32, y: u32) -> CirclePoint
+    ensures { λ r. ⌜ pointOf r ≡ (x, y) ⌝ }
+{
+    CirclePoint {
+        x: M31(x),
+        y: M31(y),
+    }
+}
+
 // The point of the index 2^log.
 pub fn power_point(log: u32) -> CirclePoint
     requires { ⌜ «log» ≤ 30 ⌝ }
     ensures { λ r. ⌜ (pointOf r ≡ indexPoint (2 ^ «log»)) × Reduced r ⌝ }
 {
     match log {
-        0 => CirclePoint {
-            x: M31(2),
-            y: M31(1268011823),
-        },
-        1 => CirclePoint {
-            x: M31(7),
-            y: M31(777079998),
-        },
-        2 => CirclePoint {
-            x: M31(97),
-            y: M31(141701737),
-        },
-        3 => CirclePoint {
-            x: M31(18817),
-            y: M31(1720333214),
-        },
-        4 => CirclePoint {
-            x: M31(708158977),
-            y: M31(683185920),
-        },
-        5 => CirclePoint {
-            x: M31(334835419),
-            y: M31(1444967316),
-        },
-        6 => CirclePoint {
-            x: M31(2042371533),
-            y: M31(1362265296),
-        },
-        7 => CirclePoint {
-            x: M31(212706801),
-            y: M31(1223819887),
-        },
-        8 => CirclePoint {
-            x: M31(421007138),
-            y: M31(256177860),
-        },
-        9 => CirclePoint {
-            x: M31(6346213),
-            y: M31(905523693),
-        },
-        10 => CirclePoint {
-            x: M31(1022251061),
-            y: M31(788094511),
-        },
-        11 => CirclePoint {
-            x: M31(1633461177),
-            y: M31(574296567),
-        },
-        12 => CirclePoint {
-            x: M31(595037635),
-            y: M31(2111542451),
-        },
-        13 => CirclePoint {
-            x: M31(1799120754),
-            y: M31(343598868),
-        },
-        14 => CirclePoint {
-            x: M31(438833264),
-            y: M31(1327019128),
-        },
-        15 => CirclePoint {
-            x: M31(1389168750),
-            y: M31(838891026),
-        },
-        16 => CirclePoint {
-            x: M31(1543902459),
-            y: M31(1632329423),
-        },
-        17 => CirclePoint {
-            x: M31(1330239767),
-            y: M31(1446369578),
-        },
-        18 => CirclePoint {
-            x: M31(1420207432),
-            y: M31(2023238517),
-        },
-        19 => CirclePoint {
-            x: M31(2015554631),
-            y: M31(1088093947),
-        },
-        20 => CirclePoint {
-            x: M31(996212859),
-            y: M31(1140996376),
-        },
-        21 => CirclePoint {
-            x: M31(1434706457),
-            y: M31(1835793811),
-        },
-        22 => CirclePoint {
-            x: M31(13610297),
-            y: M31(1064696601),
-        },
-        23 => CirclePoint {
-            x: M31(785043271),
-            y: M31(1260750973),
-        },
-        24 => CirclePoint {
-            x: M31(838195206),
-            y: M31(1774253895),
-        },
-        25 => CirclePoint {
-            x: M31(579625837),
-            y: M31(1690787918),
-        },
-        26 => CirclePoint {
-            x: M31(1179735656),
-            y: M31(1241207368),
-        },
-        27 => CirclePoint {
-            x: M31(590768354),
-            y: M31(978592373),
-        },
-        28 => CirclePoint {
-            x: M31(32768),
-            y: M31(2147450879),
-        },
-        29 => CirclePoint {
-            x: M31(0),
-            y: M31(2147483646),
-        },
-        _ => CirclePoint {
-            x: M31(2147483646),
-            y: M31(0),
-        },
+        0 => constant(2, 1268011823),
+        1 => constant(7, 777079998),
+        2 => constant(97, 141701737),
+        3 => constant(18817, 1720333214),
+        4 => constant(708158977, 683185920),
+        5 => constant(334835419, 1444967316),
+        6 => constant(2042371533, 1362265296),
+        7 => constant(212706801, 1223819887),
+        8 => constant(421007138, 256177860),
+        9 => constant(6346213, 905523693),
+        10 => constant(1022251061, 788094511),
+        11 => constant(1633461177, 574296567),
+        12 => constant(595037635, 2111542451),
+        13 => constant(1799120754, 343598868),
+        14 => constant(438833264, 1327019128),
+        15 => constant(1389168750, 838891026),
+        16 => constant(1543902459, 1632329423),
+        17 => constant(1330239767, 1446369578),
+        18 => constant(1420207432, 2023238517),
+        19 => constant(2015554631, 1088093947),
+        20 => constant(996212859, 1140996376),
+        21 => constant(1434706457, 1835793811),
+        22 => constant(13610297, 1064696601),
+        23 => constant(785043271, 1260750973),
+        24 => constant(838195206, 1774253895),
+        25 => constant(579625837, 1690787918),
+        26 => constant(1179735656, 1241207368),
+        27 => constant(590768354, 978592373),
+        28 => constant(32768, 2147450879),
+        29 => constant(0, 2147483646),
+        _ => constant(2147483646, 0),
     }
 }

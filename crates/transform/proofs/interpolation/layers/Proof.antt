@@ -87,9 +87,11 @@ loop-again c =
     let power = c .before .before .before .before .two-to in
     let d = c .before .before .before .before .before in
     let at = d .before .loop in
-    let s = d .before .before .before .before .before .before .before .before in
-    ((λ block b done. done-next block (s .args .tree .now) (s .args .i) (s .args .k) b (at .t) (at .count) (at .node) (reducedWords (at .column)) (at .inv .0 block b done)
-    (d .loop-test .taken) (power .result) (power .ensures) (reducedWords (layer .last .0)) (layer .ensures .0)), λ p. layer .ensures .1)
+    let s = d .before .before .before .before .before .before .before .before in (
+      (λ block b done. done-next block (s .args .tree .now) (s .args .i) (s .args .k) b (at .t) (at .count) (at .node) (reducedWords (at .column)) (at .inv .0 block b done)
+          (d .loop-test .taken) (power .result) (power .ensures) (reducedWords (layer .last .0)) (layer .ensures .0)),
+      λ p. layer .ensures .1,
+    )
 
 same-length : tie.Need-same-length Inv-loop μ-loop
 same-length c =

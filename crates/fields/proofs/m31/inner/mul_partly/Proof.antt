@@ -1,8 +1,7 @@
-use Prim.Native.Nat.{ℕ, _*_, _%_}
+use Prim.Native.Nat.{_*_}
 use mathlib.Core.Path.{_∙_}
 use native.Mathlib.Omega.{arith}
 use borrow.Author.Needs.{needs}
-use Rattle.algebra.specs.M31.{P}
 use Rattle.fields.proofs.Reductions.{product-below, halves, halves-below}
 use Rattle.fields.proofs.m31.inner.mul_partly.Statement.{statement}
 use Rattle.fields.proofs.m31.inner.mul_partly.Tie as tie
