@@ -18,7 +18,7 @@ fn below_p(column: &[u32]) -> bool {
     column.iter().fold(0, |seen, word| seen | word | word.wrapping_add(1)) <= P
 }
 
-/// A sum below 2P, or 2P: below P, or at most P.
+/// A sum below 2P down to below P; with `PARTLY` one of up to 2P down to at most P, which stands for 0.
 #[inline(always)]
 fn sum<const PARTLY: bool>(sum: u32) -> u32 {
     if PARTLY {
@@ -28,7 +28,7 @@ fn sum<const PARTLY: bool>(sum: u32) -> u32 {
     }
 }
 
-/// The product may be P: the sum and the difference take that for 0. They may be P only where u is.
+/// The product may be P: the sum and the difference take that for 0. Only with `PARTLY` may they be P themselves.
 #[inline(always)]
 fn butterfly<const PARTLY: bool>(u: u32, v: u32, w: u32) -> (u32, u32) {
     let product = mul_partly(v, w);
@@ -67,8 +67,8 @@ fn halves(block: &mut [u32], half: usize, w: u32, butterfly: impl Butterfly) {
     }
 }
 
-/// The last two layers on the eight words below two siblings, which hold x and y of one point.
-/// Their words may be P for 0 with `PARTLY`; it leaves words below P.
+/// The last two layers on the eight words below two siblings, which hold x and y of one point. With `PARTLY` it takes words
+/// that may be P for 0; it leaves words below P.
 #[inline(always)]
 fn eight<const PARTLY: bool>(c: &mut [u32; 8], x: u32, y: u32) {
     if PARTLY {
