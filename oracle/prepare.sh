@@ -1,5 +1,6 @@
-# Read by `run`, `run-speed` and `run-largest`: makes the library where it is missing or old, and sees that the header
-# declares just what it exports. Leaves `cargo_run`, the words of a cargo command that the scripts have in common.
+# Read by `run`, `run-speed` and `run-largest`, with the name of a cargo profile: lets `host/sys` make the library where
+# that is missing or old, and sees that the header declares just what it exports. Leaves `cargo_run`, the words of a
+# cargo command that the scripts have in common.
 root=$(dirname "$oracle")
 library=$root/target/staticlib/libtaripomune.a
 
@@ -7,13 +8,15 @@ if [ -n "${TARIPOMUNE_LIB:-}" ]; then
     TARIPOMUNE_LIB=$(realpath "$TARIPOMUNE_LIB")
     export TARIPOMUNE_LIB
     library=$TARIPOMUNE_LIB/libtaripomune.a
-elif [ ! -e "$library" ] || [ -n "$(find "$root/crates" -name '*.rt' -newer "$library" -print -quit)" ]; then
-    (cd "$root" && rt staticlib taripomune)
 fi
 if [ -n "${STWO_SRC:-}" ]; then
     STWO_SRC=$(realpath "$STWO_SRC")
     export STWO_SRC
 fi
+
+options=(--offline --quiet --profile "$1" --target-dir "$root/target/oracle"
+    --manifest-path "$oracle/Cargo.toml" --config "$oracle/.cargo/config.toml")
+cargo build "${options[@]}" --package taripomune-sys
 
 exported=$(nm --defined-only "$library" | awk '$2 == "T" { print $3 }' | sort)
 declared=$(sed -n 's/^tari_[a-z0-9_]* \(tari_[a-z0-9_]*\)(.*/\1/p' "$root/include/taripomune.h" | sort)
@@ -22,5 +25,4 @@ if ! diff <(echo "$exported") <(echo "$declared"); then
     exit 1
 fi
 
-cargo_run=(cargo run --offline --quiet --target-dir "$root/target/oracle"
-    --manifest-path "$oracle/Cargo.toml" --config "$oracle/.cargo/config.toml")
+cargo_run=(cargo run "${options[@]}")

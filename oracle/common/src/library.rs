@@ -1,9 +1,10 @@
-//! The library's functions with C linkage, generated from `include/taripomune.h`.
+//! The library's functions with C linkage, and a list of them all, generated from `include/taripomune.h`.
 
-#![allow(non_camel_case_types, unused_variables, unused_mut)]
+#![allow(unused_variables, unused_mut)]
 
 use crate::args::{Answer, Args};
 use crate::lent::Lent;
+pub use taripomune_sys::*;
 
 /// A function of the header.
 pub struct Function {
@@ -17,4 +18,4 @@ pub struct Function {
     pub refused: fn(&mut Args) -> Vec<u64>,
 }
 
-include!(concat!(env!("OUT_DIR"), "/library.rs"));
+include!(concat!(env!("OUT_DIR"), "/functions.rs"));

@@ -1,4 +1,4 @@
-//! Times two pieces of work in turn.
+//! Rows: two pieces of work, timed in turn.
 
 use std::time::{Duration, Instant};
 
@@ -7,6 +7,10 @@ const TIME: Duration = Duration::from_secs(1);
 
 /// and has at least so many rounds.
 const ROUNDS: usize = 5;
+
+/// The rows are measured so many times one after the other, and the best times taken: a disturbance that lasts as long
+/// as a row doesn't decide it.
+const VISITS: usize = 3;
 
 pub struct Row {
     pub what: &'static str,
@@ -33,6 +37,28 @@ impl Row {
         let (rust, library) = (self.rust.min(other.rust), self.library.min(other.library));
         Row { rust, library, equal: self.equal && other.equal, ..self }
     }
+
+    /// The row as it is printed below `heading`.
+    pub fn line(&self) -> String {
+        let Row { what, rust, library, limit, .. } = self;
+        let remark = match (self.equal, self.passes()) {
+            (false, _) => "  the answers differ",
+            (true, false) => "  above the limit",
+            (true, true) => "",
+        };
+        let limit = if limit.is_finite() { format!("{limit:.2}") } else { "none".to_string() };
+        format!("{what:<54}{rust:>12.3}{library:>12.3}{:>9.3}{limit:>9}{remark}", self.ratio())
+    }
+}
+
+pub fn heading() -> String {
+    format!("{:<54}{:>12}{:>12}{:>9}{:>9}", "nanoseconds an element", "Rust", "library", "ratio", "limit")
+}
+
+pub fn measured(rows: &[fn() -> Row]) -> Vec<Row> {
+    let visits = (0..VISITS).map(|_| rows.iter().map(|row| row()).collect());
+    let better = |one: Vec<Row>, other: Vec<Row>| one.into_iter().zip(other).map(|(a, b)| a.better(b)).collect();
+    visits.reduce(better).unwrap()
 }
 
 /// The best times of both sides in nanoseconds an element; they run in turn, so that a disturbance meets both.

@@ -15,7 +15,7 @@ use stwo::core::fields::m31::{M31, P};
 use stwo::core::fields::qm31::QM31;
 use stwo::core::utils::{bit_reverse, bit_reverse_coset_to_circle_domain_order};
 
-pub const ROWS: &[fn() -> Row] = &[
+pub static ROWS: &[fn() -> Row] = &[
     || batch_inverse::<M31>("m31_batch_inverse_in_place, 2^20 elements", 1 << 20, tari_m31_batch_inverse_in_place),
     || batch_inverse::<QM31>("qm31_batch_inverse_in_place, 2^18 elements", 1 << 18, tari_qm31_batch_inverse_in_place),
     || chain("qm31_mul, a chain of 2^16 products", 1 << 16, 4, QM31::of, |x, y| x * y, qm31_mul),
@@ -86,12 +86,12 @@ fn chain<T: Copy + PartialEq>(
 
 fn qm31_mul(x: QM31, y: QM31) -> QM31 {
     let ([a0, a1, a2, a3], [b0, b1, b2, b3]) = (words(x), words(y));
-    let reply = unsafe { tari_qm31_mul(a0, a1, a2, a3, b0, b1, b2, b3) };
+    let reply = tari_qm31_mul(a0, a1, a2, a3, b0, b1, b2, b3);
     QM31::from_u32_unchecked(reply.a, reply.b, reply.c, reply.d)
 }
 
 fn point_add(a: CirclePoint<M31>, b: CirclePoint<M31>) -> CirclePoint<M31> {
-    let reply = unsafe { tari_point_add(a.x.0, a.y.0, b.x.0, b.y.0) };
+    let reply = tari_point_add(a.x.0, a.y.0, b.x.0, b.y.0);
     CirclePoint { x: M31(reply.x), y: M31(reply.y) }
 }
 
@@ -116,7 +116,7 @@ fn doublings(what: &'static str, n: u32) -> Row {
         || rust_last = black_box(black_box(start).repeated_double(n)),
         || {
             let start = black_box(start);
-            let reply = unsafe { tari_point_repeated_double(start.x.0, start.y.0, n) };
+            let reply = tari_point_repeated_double(start.x.0, start.y.0, n);
             last = CirclePoint { x: M31(reply.x), y: M31(reply.y) };
         },
     );
@@ -126,7 +126,7 @@ fn doublings(what: &'static str, n: u32) -> Row {
 fn secure_point_add(a: CirclePoint<QM31>, b: CirclePoint<QM31>) -> CirclePoint<QM31> {
     let ([a0, a1, a2, a3], [a4, a5, a6, a7]) = (words(a.x), words(a.y));
     let ([b0, b1, b2, b3], [b4, b5, b6, b7]) = (words(b.x), words(b.y));
-    let reply = unsafe { tari_secure_point_add(a0, a1, a2, a3, a4, a5, a6, a7, b0, b1, b2, b3, b4, b5, b6, b7) };
+    let reply = tari_secure_point_add(a0, a1, a2, a3, a4, a5, a6, a7, b0, b1, b2, b3, b4, b5, b6, b7);
     CirclePoint {
         x: QM31::from_u32_unchecked(reply.x0, reply.x1, reply.x2, reply.x3),
         y: QM31::from_u32_unchecked(reply.y0, reply.y1, reply.y2, reply.y3),
@@ -152,7 +152,7 @@ fn to_point(what: &'static str, n: usize) -> Row {
         },
         || {
             for (index, point) in black_box(&indices).iter().zip(black_box(&mut points)) {
-                let reply = unsafe { tari_index_to_point(*index) };
+                let reply = tari_index_to_point(*index);
                 *point = [reply.x, reply.y];
             }
         },

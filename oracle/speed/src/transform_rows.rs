@@ -8,7 +8,7 @@ use crate::transform::{partly_reduced, plain, Transform};
 use common::library::{tari_evaluate, tari_interpolate, tari_write_reply};
 use std::cell::RefCell;
 
-pub const TRANSFORM_ROWS: &[fn() -> Row] = &[
+pub static TRANSFORM_ROWS: &[fn() -> Row] = &[
     || evaluate("evaluate, 2^10 words", 10),
     || evaluate("evaluate, 2^16 words", 16),
     || evaluate("evaluate, 2^20 words", 20),
@@ -22,7 +22,7 @@ pub const TRANSFORM_ROWS: &[fn() -> Row] = &[
 ];
 
 /// The Rust that leaves P for 0 where the library does.
-pub const PARTLY_ROWS: &[fn() -> Row] = &[
+pub static PARTLY_ROWS: &[fn() -> Row] = &[
     || partly_evaluate("evaluate, 2^10 words, Rust that leaves P", 10),
     || partly_evaluate("evaluate, 2^16 words, Rust that leaves P", 16),
     || partly_evaluate("evaluate, 2^20 words, Rust that leaves P", 20),
