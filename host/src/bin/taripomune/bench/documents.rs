@@ -1,0 +1,45 @@
+//! The table and the plot as files.
+
+use super::plot::plot;
+use crate::column_file::{OWN, write_beside};
+use crate::failure::Failure;
+use crate::say;
+use speed::Row;
+use std::ffi::OsStr;
+use std::fs;
+use std::io::Write;
+use std::path::Path;
+
+/// Writes `benchmark.md` and `benchmark.svg`.
+pub fn write(folder: &Path, rows: &[Row]) -> Result<(), Failure> {
+    for (name, text) in [("benchmark.md", table(rows)), ("benchmark.svg", plot(rows))] {
+        let (path, own) = (folder.join(name), format!("{OWN}bench.part"));
+        write_beside(&path, OsStr::new(&own), |file| file.write_all(text.as_bytes()))?;
+        say(&path.display().to_string());
+    }
+    Ok(())
+}
+
+fn table(rows: &[Row]) -> String {
+    let line = |row: &Row| {
+        let Row { what, rust, library, limit, .. } = row;
+        format!("| {what} | {rust:.3} | {library:.3} | {:.3} | {limit:.2} |\n", row.ratio())
+    };
+    let lines: String = rows.iter().map(line).collect();
+    format!(
+        "# Benchmark\n\n\
+        Written by `taripomune bench`: nanoseconds an element of the Rust and of the library, measured in turn in one\n\
+        run, the time of the library divided by that of the Rust, and what this may be at most. The Rust of the transform\n\
+        is the library's algorithm (`oracle/speed`), the other one is stwo's.{}\n\n\
+        ![The times of the library divided by those of the Rust](benchmark.svg)\n\n\
+        | what | Rust | library | ratio | limit |\n|---|---|---|---|---|\n{lines}",
+        processor().map_or(String::new(), |name| format!(" Processor: {name}."))
+    )
+}
+
+/// The processor's name, as Linux tells it.
+fn processor() -> Option<String> {
+    let text = fs::read_to_string("/proc/cpuinfo").ok()?;
+    let line = text.lines().find(|line| line.starts_with("model name"))?;
+    Some(line.split_once(':')?.1.trim().to_string())
+}

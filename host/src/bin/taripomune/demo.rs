@@ -1,0 +1,114 @@
+//! A day of sample balances there and back.
+
+use crate::column_file::{self, Direction};
+use crate::failure::Failure;
+use crate::report::Summary;
+use crate::run::{self, Job};
+use crate::say;
+use std::fs;
+use std::path::{Path, PathBuf};
+use taripomune::{Field, M31, P};
+
+/// A column for each hour,
+const HOURS: usize = 24;
+
+/// with a balance for each of 2^20 cards.
+const LOG_CARDS: u32 = 20;
+
+/// A balance has so many bits: then the total is below P, so that it is known, and not only modulo P.
+const BALANCE_BITS: u32 = 11;
+
+pub fn demo() -> Result<(), Failure> {
+    let day = Day::new()?;
+    let [values, coefficients, returned] = ["values", "coefficients", "returned"].map(|name| day.folder.join(name));
+    fs::create_dir(&values).map_err(Failure::machine(&values))?;
+    let mut balances = Balances(M31::one());
+    for hour in 0..HOURS {
+        column_file::write(&values.join(name(hour)), &balances.column())?;
+    }
+    say(&format!("A day of sample balances: {HOURS} columns of {} cards, 0.00 to 20.47 each.", 1 << LOG_CARDS));
+    let there = run(Direction::Interpolate, &values, &coefficients)?;
+    let back = run(Direction::Evaluate, &coefficients, &returned)?;
+    let mut all = true;
+    say(&format!("\nhour  total of the balances  2^{LOG_CARDS} times coefficient 0  returned"));
+    for hour in 0..HOURS {
+        let [values, coefficients, returned] =
+            [&values, &coefficients, &returned].map(|folder| read(&folder.join(name(hour))));
+        let (values, coefficients) = (values?, coefficients?);
+        let total: u64 = words(&values).map(u64::from).sum();
+        let sum = M31::from(words(&coefficients).next().unwrap_or(0)) * M31::from(2).pow(LOG_CARDS.into());
+        let same = values == returned?;
+        all &= same && u64::from(sum.word()) == total;
+        let yes_or_no = if same { "yes" } else { "no" };
+        say(&format!("  {hour:02}  {:>21}  {:>24}  {yes_or_no:>8}", money(total), money(sum.word().into())));
+    }
+    say(&format!(
+        "\ninterpolated: {:.1} s, {:.0} columns a minute\nevaluated:    {:.1} s, {:.0} columns a minute\n",
+        there.time.as_secs_f64(),
+        there.rate(),
+        back.time.as_secs_f64(),
+        back.rate()
+    ));
+    if !all {
+        return Err(Failure::Wrong("a column didn't return, or its total is another one".to_string()));
+    }
+    say(&format!("All {HOURS} columns returned, and each total is 2^{LOG_CARDS} times coefficient 0."));
+    Ok(())
+}
+
+fn name(hour: usize) -> String {
+    format!("hour-{hour:02}")
+}
+
+fn run(direction: Direction, columns: &Path, results: &Path) -> Result<Summary, Failure> {
+    let summary = run::run(&Job { direction, columns, results, quiet: false })?;
+    match summary.accepted {
+        HOURS => Ok(summary),
+        accepted => Err(Failure::Wrong(format!("only {accepted} of {HOURS} columns were accepted"))),
+    }
+}
+
+fn read(path: &Path) -> Result<Vec<u8>, Failure> {
+    fs::read(path).map_err(Failure::unreadable(path))
+}
+
+fn words(bytes: &[u8]) -> impl Iterator<Item = u32> {
+    bytes.as_chunks().0.iter().map(|word| u32::from_le_bytes(*word))
+}
+
+fn money(cents: u64) -> String {
+    format!("{}.{:02}", cents / 100, cents % 100)
+}
+
+/// Sample balances: the upper bits of the powers of 16807, a generator of M31, as Park and Miller draw numbers.
+struct Balances(M31);
+
+impl Balances {
+    fn column(&mut self) -> Vec<u32> {
+        let generator = M31::from(16807);
+        let mut draw = || {
+            self.0 *= generator;
+            self.0.word() >> (P.ilog2() + 1 - BALANCE_BITS)
+        };
+        (0..1 << LOG_CARDS).map(|_| draw()).collect()
+    }
+}
+
+/// A folder of temporary files, which goes with this value.
+struct Day {
+    folder: PathBuf,
+}
+
+impl Day {
+    fn new() -> Result<Day, Failure> {
+        let folder = std::env::temp_dir().join(format!("taripomune-demo-{}", std::process::id()));
+        fs::create_dir(&folder).map_err(Failure::machine(&folder))?;
+        Ok(Day { folder })
+    }
+}
+
+impl Drop for Day {
+    fn drop(&mut self) {
+        let _ = fs::remove_dir_all(&self.folder);
+    }
+}
