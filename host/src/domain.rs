@@ -1,9 +1,15 @@
 //! Circle domains, and the iterator over their indices.
 
 use crate::call::{Answer, accepted, answer};
-use crate::{CirclePoint, CirclePointIndex, Coset, CosetIterator, M31, Refusal};
+use crate::{CirclePoint, CirclePointIndex, Coset, CosetIterator, M31, M31_CIRCLE_LOG_ORDER, Refusal};
 use std::iter::FusedIterator;
 use taripomune_sys::{tari_circle_domain_index_iterator_reply, tari_circle_domain_step_reply};
+
+/// The largest log size of a canonic circle domain.
+pub const MAX_CIRCLE_DOMAIN_LOG_SIZE: u32 = M31_CIRCLE_LOG_ORDER - 1;
+
+/// The smallest log size of a canonic circle domain.
+pub const MIN_CIRCLE_DOMAIN_LOG_SIZE: u32 = 1;
 
 /// The points of a coset and then their conjugates, in the same order.
 ///
@@ -60,7 +66,7 @@ impl CircleDomain {
         accepted(call!(tari_circle_domain_index_at(coset self.half_coset, number i as u64)))
     }
 
-    /// Whether 4 times the initial index is the step. For the canonic domain of log size 1 it isn't.
+    /// Whether 4 times the initial index, reduced, is the step. For the canonic domain of log size 1 it isn't.
     pub fn is_canonic(&self) -> bool {
         accepted(call!(tari_circle_domain_is_canonic(coset self.half_coset)))
     }

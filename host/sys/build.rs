@@ -10,7 +10,7 @@ use std::time::SystemTime;
 use taripomune_header::{Header, Pointer, Prototype, Reply, Variable};
 
 fn main() {
-    let root = PathBuf::from(env::var("CARGO_MANIFEST_DIR").unwrap()).join("../..");
+    let root = Path::new(&env::var("CARGO_MANIFEST_DIR").unwrap()).join("../..").canonicalize().unwrap();
     let header = root.join("include/taripomune.h");
     println!("cargo::rerun-if-changed={}", header.display());
     let text = fs::read_to_string(&header).unwrap_or_else(|error| stop(&format!("{}: {error}", header.display())));
@@ -62,7 +62,10 @@ fn link(root: &Path) {
     if env::var("TARGET").unwrap() != "x86_64-unknown-linux-gnu" {
         stop("libtaripomune.a is compiled for x86_64-unknown-linux-gnu, and for no other target");
     }
-    let given = env::var_os("TARIPOMUNE_LIB").map(PathBuf::from);
+    let given = env::var_os("TARIPOMUNE_LIB").filter(|folder| !folder.is_empty()).map(PathBuf::from);
+    if let Some(folder) = given.as_ref().filter(|folder| folder.is_relative()) {
+        stop(&format!("TARIPOMUNE_LIB is {}: give the folder's whole path", folder.display()));
+    }
     let folder = given.clone().unwrap_or_else(|| root.join("target/staticlib"));
     let archive = folder.join("libtaripomune.a");
     println!("cargo::rerun-if-changed={}", archive.display());

@@ -2,8 +2,6 @@
 
 use taripomune::*;
 
-const P2: u64 = P as u64 * P as u64;
-
 fn off_circle() -> CirclePoint<M31> {
     CirclePoint { x: M31::from(1), y: M31::from(5) }
 }
@@ -40,6 +38,8 @@ fn refused_calls() -> Vec<(u32, u64, Refusal)> {
         (6, 0, Coset::half_odds(30).unwrap_err()),
         (6, 0, Coset::from_fields(index(0), off_circle(), index(0), off_circle(), 32).unwrap_err()),
         (6, 0, CanonicCoset::try_new(0).unwrap_err()),
+        (6, 0, CanonicCoset::try_new(31).unwrap_err()),
+        (6, 0, CanonicCoset::new(0).unwrap_err()),
         (6, 0, CanonicCoset::new(31).unwrap_err()),
         (6, 0, CanonicCoset::from_coset(Coset::subgroup(0).unwrap()).unwrap_err()),
         (6, 0, bit_reverse_index(0, 65).unwrap_err()),

@@ -1,7 +1,7 @@
 //! Points over M31 and QM31.
 
 use crate::call::{Answer, accepted, answer};
-use crate::{Field, M31, QM31, Refusal};
+use crate::{Field, M31, P4, QM31, Refusal};
 use std::ops::{Add, Neg, Sub};
 use taripomune_sys::{tari_point_reply, tari_secure_point_reply};
 
@@ -37,8 +37,8 @@ pub const SECURE_FIELD_CIRCLE_GEN: CirclePoint<QM31> = CirclePoint {
     y: QM31::of_words([992285211, 649143431, 740191619, 1186584352]),
 };
 
-/// `get_point` takes indices below this, P^4 - 1.
-pub const SECURE_FIELD_CIRCLE_ORDER: u128 = 21267647892944572736998860269687930880;
+/// `get_point` takes indices below this.
+pub const SECURE_FIELD_CIRCLE_ORDER: u128 = P4 - 1;
 
 /// The fields that points are over, M31 and QM31. It can't be implemented outside this crate.
 ///

@@ -1,11 +1,14 @@
 //! CM31, the extension of M31 by i.
 
-use super::M31;
 use super::operators::{impl_assignments, impl_field, impl_operator, impl_operators};
+use super::{M31, P};
 use crate::Refusal;
 use crate::call::{Answer, accepted, answer};
 use std::fmt;
 use taripomune_sys::tari_cm31_reply;
+
+/// How many elements CM31 has, P^2.
+pub const P2: u64 = P as u64 * P as u64;
 
 /// a + bi with i^2 = -1, as a and b.
 ///

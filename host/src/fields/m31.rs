@@ -10,6 +10,12 @@ use taripomune_sys::tari_m31_reply;
 /// 2^31 - 1.
 pub const P: u32 = 2147483647;
 
+/// P has so many bits.
+pub const MODULUS_BITS: u32 = 31;
+
+/// An element of M31 has so many bytes.
+pub const N_BYTES_FELT: usize = 4;
+
 /// An integer modulo P, as one word below P.
 ///
 /// ```

@@ -1,11 +1,17 @@
 //! QM31, the extension of CM31 by u.
 
 use super::operators::{impl_assignments, impl_field, impl_operator, impl_operators};
-use super::{CM31, M31};
+use super::{CM31, M31, P2};
 use crate::Refusal;
 use crate::call::{Answer, accepted, answer};
 use std::fmt;
 use taripomune_sys::tari_qm31_reply;
+
+/// How many elements QM31 has, P^4.
+pub const P4: u128 = P2 as u128 * P2 as u128;
+
+/// An element of QM31 is so many of M31.
+pub const SECURE_EXTENSION_DEGREE: usize = 4;
 
 /// The square of u, 2 + i.
 pub const R: CM31 = CM31(M31::of_word(2), M31::of_word(1));
@@ -56,19 +62,19 @@ impl QM31 {
     }
 
     /// The element of these parts, in the order of `from_m31`.
-    pub fn from_m31_array(array: [M31; 4]) -> QM31 {
+    pub fn from_m31_array(array: [M31; SECURE_EXTENSION_DEGREE]) -> QM31 {
         let [a, b, c, d] = array;
         accepted(call!(tari_qm31_from_m31_array(m31 a, m31 b, m31 c, m31 d)))
     }
 
     /// Its parts, in the order of `from_m31`.
-    pub fn to_m31_array(self) -> [M31; 4] {
+    pub fn to_m31_array(self) -> [M31; SECURE_EXTENSION_DEGREE] {
         let QM31(CM31(a, b), CM31(c, d)) = accepted(call!(tari_qm31_to_m31_array(qm31 self)));
         [a, b, c, d]
     }
 
     /// The value of a column of QM31 elements, from those of the four columns of their parts.
-    pub fn from_partial_evals(evals: [QM31; 4]) -> QM31 {
+    pub fn from_partial_evals(evals: [QM31; SECURE_EXTENSION_DEGREE]) -> QM31 {
         let [a, b, c, d] = evals;
         accepted(call!(tari_qm31_from_partial_evals(qm31 a, qm31 b, qm31 c, qm31 d)))
     }

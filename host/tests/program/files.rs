@@ -2,14 +2,18 @@
 
 use crate::support::*;
 use std::fs;
-use std::os::unix::fs::symlink;
+use std::os::unix::fs::{FileExt, PermissionsExt, symlink};
 use std::path::{Path, PathBuf};
-use std::process::{Child, Stdio};
+use std::process::{Child, Command, Stdio};
 use std::thread::sleep;
 use std::time::Duration;
 
 fn transform(direction: &str, input: &Path, output: &Path) -> (Option<i32>, String) {
     ended(&program().arg(direction).args([input, output]).output().unwrap())
+}
+
+fn make_pipe(path: &Path) {
+    assert!(Command::new("mkfifo").arg(path).status().unwrap().success());
 }
 
 #[test]
@@ -79,7 +83,7 @@ fn a_file_that_cannot_be_read_is_told() {
     let folder = Folder::new("unreadable");
     symlink("loop", folder.path("loop")).unwrap();
     folder.folder("folder");
-    assert!(std::process::Command::new("mkfifo").arg(folder.path("pipe")).status().unwrap().success());
+    make_pipe(&folder.path("pipe"));
     for name in ["missing", "loop", "folder", "pipe"] {
         let input = folder.path(name);
         let (status, line) = transform("evaluate", &input, &folder.path("out"));
@@ -121,38 +125,99 @@ fn a_full_disk_leaves_the_result_as_it_was() {
     assert_eq!(left_over(&folder.path("")), Vec::<PathBuf>::new());
 }
 
-/// Starts the program on a file, cuts the file when some of it was read, and answers how the program ended.
-fn cut_while_read(input: &Path, output: &Path) -> (Option<i32>, String) {
-    const WORDS: u64 = 1 << 24;
+#[test]
+fn what_another_program_writes_beside_is_not_touched() {
+    let folder = Folder::new("beside");
+    fs::write(folder.path("in"), bytes(&column(3, 1))).unwrap();
+    // The shell has the number of the process that the program will be.
+    let mut command = program_after("echo other > .taripomune-$$.part");
+    let output = command.args(["evaluate", "in", "out"]).current_dir(folder.path("")).output().unwrap();
+    assert_eq!(ended(&output), (Some(0), String::new()));
+    assert_eq!(fs::read(folder.path("out")).unwrap(), bytes(&evaluated(&column(3, 1))));
+    let left = left_over(&folder.path(""));
+    assert!(left.len() == 1 && fs::read(&left[0]).unwrap() == b"other\n");
+}
+
+type Disturb = fn(&fs::File);
+
+/// Starts the program on a file of 2^24 zeros, disturbs the file when some of it was read, and answers how the program
+/// ended.
+fn disturbed(input: &Path, output: &Path, disturb: Disturb) -> (Option<i32>, String) {
     let file = fs::File::create(input).unwrap();
-    file.set_len(4 * WORDS).unwrap();
-    let child = program().arg("interpolate").args([input, output]).stderr(Stdio::piped()).spawn().unwrap();
-    while bytes_read(&child).is_some_and(|bytes| bytes < 1 << 20) {
+    file.set_len(4 << 24).unwrap();
+    let mut command = program();
+    let mut child = command.arg("interpolate").args([input, output]).stderr(Stdio::piped()).spawn().unwrap();
+    while child.try_wait().unwrap().is_none() && bytes_read(&child) < 1 << 20 {
         sleep(Duration::from_micros(200));
     }
-    file.set_len(1 << 20).unwrap();
+    disturb(&file);
     ended(&child.wait_with_output().unwrap())
 }
 
-/// How many bytes a process has read, if it is there.
-fn bytes_read(child: &Child) -> Option<u64> {
-    let text = fs::read_to_string(format!("/proc/{}/io", child.id())).ok()?;
-    text.lines().find_map(|line| line.strip_prefix("rchar: "))?.parse().ok()
+/// How many bytes a process has read.
+fn bytes_read(child: &Child) -> u64 {
+    let text = fs::read_to_string(format!("/proc/{}/io", child.id())).unwrap_or_default();
+    text.lines().find_map(|line| line.strip_prefix("rchar: ")).map_or(0, |count| count.parse().unwrap())
 }
 
 #[test]
-fn a_file_cut_while_it_is_read_is_no_column() {
-    let folder = Folder::new("cut");
+fn a_file_disturbed_while_it_is_read_is_no_column() {
+    let disturbances: [(Disturb, &str); 3] = [
+        (|file| file.set_len(1 << 20).unwrap(), "it became shorter while it was read"),
+        (|file| file.set_len(4 << 25).unwrap(), "it became longer while it was read"),
+        (|file| file.write_all_at(&[1], 0).unwrap(), "it changed while it was read"),
+    ];
+    let folder = Folder::new("disturbed");
     let (input, output) = (folder.path("in"), folder.path("out"));
-    // The program may be done before the file is cut; then it is tried again.
-    let mut tries = (0..20).map(|_| {
-        let _ = fs::remove_file(&output);
-        cut_while_read(&input, &output)
-    });
-    let (status, line) = tries.find(|(status, _)| *status != Some(0)).unwrap();
-    assert_eq!(status, Some(1));
-    assert!(line.ends_with("in: can't be read: it became shorter while it was read\n"), "{line}");
-    assert!(!output.exists());
+    for (disturb, sentence) in disturbances {
+        // The program may be done before; then it is tried again.
+        let mut tries = (0..20).map(|_| {
+            let _ = fs::remove_file(&output);
+            disturbed(&input, &output, disturb)
+        });
+        let (status, line) = tries.find(|(status, _)| *status != Some(0)).unwrap();
+        assert_eq!(status, Some(1));
+        assert!(line.ends_with(&format!("in: can't be read: {sentence}\n")), "{line}");
+        assert!(!output.exists());
+    }
+}
+
+#[test]
+fn a_result_takes_the_place_of_a_file_only() {
+    let folder = Folder::new("places");
+    fs::write(folder.path("in"), bytes(&column(3, 1))).unwrap();
+    fs::write(folder.path("file"), "file").unwrap();
+    symlink("file", folder.path("link")).unwrap();
+    make_pipe(&folder.path("pipe"));
+    for name in ["link", "pipe"] {
+        let (status, line) = transform("interpolate", &folder.path("in"), &folder.path(name));
+        assert_eq!(status, Some(1));
+        assert!(line.ends_with("can't be written: what is there isn't a regular file\n"), "{line}");
+    }
+    assert_eq!(fs::read(folder.path("file")).unwrap(), b"file");
+    assert_eq!(transform("interpolate", &folder.path("in"), &folder.path("file")).0, Some(0));
+}
+
+#[test]
+fn a_result_is_for_the_same_users() {
+    let folder = Folder::new("users");
+    for mode in [0o600, 0o640, 0o444] {
+        let (input, output) = (folder.path(&format!("in-{mode:o}")), folder.path(&format!("out-{mode:o}")));
+        fs::write(&input, bytes(&column(3, 1))).unwrap();
+        fs::set_permissions(&input, fs::Permissions::from_mode(mode)).unwrap();
+        assert_eq!(transform("interpolate", &input, &output).0, Some(0));
+        assert_eq!(fs::metadata(&output).unwrap().permissions().mode() & 0o777, mode);
+    }
+}
+
+#[test]
+fn a_name_with_a_line_break_gives_one_line() {
+    let folder = Folder::new("line-break");
+    let input = folder.path("a\nb\u{85}");
+    fs::write(&input, "12345").unwrap();
+    let (status, line) = transform("interpolate", &input, &folder.path("out"));
+    assert_eq!(status, Some(2));
+    assert!(line.lines().count() == 1 && line.contains("a\\x0ab\\xc2\\x85: number 8, position 0"), "{line}");
 }
 
 #[test]
@@ -200,4 +265,12 @@ fn a_name_may_begin_with_a_dash() {
     command.args(["evaluate", "--", "-in", "-out"]).current_dir(folder.path(""));
     assert_eq!(ended(&command.output().unwrap()), (Some(0), String::new()));
     assert!(folder.path("-out").exists());
+}
+
+#[test]
+fn the_demonstration_is_right() {
+    let output = program().arg("demo").output().unwrap();
+    assert_eq!(ended(&output), (Some(0), String::new()));
+    let text = String::from_utf8(output.stdout).unwrap();
+    assert!(text.ends_with("All 24 columns returned, and each total is 2^20 times coefficient 0.\n"), "{text}");
 }

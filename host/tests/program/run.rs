@@ -100,32 +100,108 @@ fn a_column_that_cannot_be_read_is_passed_and_tried_again() {
 }
 
 #[test]
+fn a_column_that_becomes_unreadable_loses_its_result() {
+    let folder = Folder::new("run-lost");
+    let (columns, results) = (folder.folder("in"), folder.path("out"));
+    for name in ["a", "b"] {
+        fs::write(columns.join(name), bytes(&column(3, 1))).unwrap();
+    }
+    assert!(run(&columns, &results).output().unwrap().status.success());
+    fs::remove_file(columns.join("a")).unwrap();
+    symlink("nothing", columns.join("a")).unwrap();
+    assert_eq!(run(&columns, &results).output().unwrap().status.code(), Some(1));
+    assert_eq!(names(&results), ["b", "taripomune-report.tsv"]);
+    // A link to the place of its result is none of the columns to transform.
+    fs::remove_file(columns.join("a")).unwrap();
+    fs::write(results.join("a"), bytes(&column(3, 2))).unwrap();
+    symlink(results.join("a"), columns.join("a")).unwrap();
+    let (status, line) = ended(&run(&columns, &results).output().unwrap());
+    assert_eq!(status, Some(1));
+    assert!(line.ends_with("a: can't be read: it is in the place of its result\n"), "{line}");
+    assert_eq!(fs::read(results.join("a")).unwrap(), bytes(&column(3, 2)));
+}
+
+#[test]
+fn a_column_too_long_for_the_memory_is_passed() {
+    let folder = Folder::new("run-too-long");
+    let (columns, results) = (folder.folder("in"), folder.path("out"));
+    fs::write(columns.join("a"), bytes(&column(3, 1))).unwrap();
+    // The file has a length and takes no room.
+    fs::File::create(columns.join("b")).unwrap().set_len(4 << 30).unwrap();
+    fs::write(columns.join("c"), bytes(&column(3, 2))).unwrap();
+    let mut limited = program_after("ulimit -v 262144");
+    let (status, line) = ended(&limited.arg("run").args([&columns, &results]).output().unwrap());
+    assert_eq!(status, Some(1));
+    assert!(line.contains("b: can't be read: ") && line.contains("memory"), "{line}");
+    assert_eq!(report(&results), ["a\t8\taccepted", "b\t-\tunreadable", "c\t8\taccepted"]);
+}
+
+#[test]
 fn a_run_does_again_what_changed_and_nothing_else() {
     let folder = Folder::new("run-again");
     let (columns, results) = (folder.folder("in"), folder.path("out"));
-    for name in ["a", "b", "c", "d"] {
+    for name in ["a", "b", "c", "d", "e"] {
         fs::write(columns.join(name), bytes(&column(5, 1))).unwrap();
     }
     assert!(run(&columns, &results).output().unwrap().status.success());
     let time = |name: &str| fs::metadata(results.join(name)).unwrap().modified().unwrap();
     let before = time("a");
     sleep(Duration::from_millis(20));
-    // Another file of the same length, one that is refused, and a result that got lost.
+    // Another file of the same length, one that is refused, a result that got lost, and one that was overwritten.
     fs::write(columns.join("b"), bytes(&column(5, 2))).unwrap();
     fs::write(columns.join("c"), bytes(&damaged(5, 3))).unwrap();
     fs::remove_file(results.join("d")).unwrap();
+    fs::write(results.join("e"), bytes(&column(5, 3))).unwrap();
     assert_eq!(run(&columns, &results).output().unwrap().status.code(), Some(2));
     assert_eq!(time("a"), before);
-    assert_whole(&columns, &results, &["a", "b", "d"].map(String::from));
+    assert_whole(&columns, &results, &["a", "b", "d", "e"].map(String::from));
     assert_eq!(
         report(&results),
-        ["a\t32\taccepted", "b\t32\taccepted", "c\t32\tnumber 1, position 3", "d\t32\taccepted"]
+        ["a\t32\taccepted", "b\t32\taccepted", "c\t32\tnumber 1, position 3", "d\t32\taccepted", "e\t32\taccepted"]
     );
-    assert_eq!(names(&results), ["a", "b", "d", "taripomune-report.tsv"]);
+    assert_eq!(names(&results), ["a", "b", "d", "e", "taripomune-report.tsv"]);
     let text = run(&columns, &results).output().unwrap().stdout;
     assert!(
-        String::from_utf8_lossy(&text).starts_with("4 columns: 3 accepted, 1 refused, 0 unreadable; 4 of them done")
+        String::from_utf8_lossy(&text).starts_with("5 columns: 4 accepted, 1 refused, 0 unreadable; 5 of them done")
     );
+}
+
+#[test]
+fn a_file_put_back_after_another_one_is_done_again() {
+    let folder = Folder::new("run-put-back");
+    let (columns, results) = (folder.folder("in"), folder.path("out"));
+    let (file, journal) = (columns.join("a"), results.join(".taripomune-journal"));
+    fs::write(&file, bytes(&column(5, 1))).unwrap();
+    let time = fs::metadata(&file).unwrap().modified().unwrap();
+    assert!(run(&columns, &results).output().unwrap().status.success());
+    sleep(Duration::from_millis(20));
+    fs::write(&file, bytes(&column(5, 2))).unwrap();
+    assert!(run(&columns, &results).output().unwrap().status.success());
+    // As if that run had been killed before the last line, and then the first file came back with its time.
+    let lines = fs::read_to_string(&journal).unwrap();
+    let last = lines.trim_end().rfind('\n').unwrap() + 1;
+    fs::write(&journal, &lines[..last]).unwrap();
+    fs::write(&file, bytes(&column(5, 1))).unwrap();
+    fs::File::open(&file).unwrap().set_modified(time).unwrap();
+    assert!(run(&columns, &results).output().unwrap().status.success());
+    assert_whole(&columns, &results, &names(&columns));
+}
+
+#[test]
+fn a_report_is_of_all_columns_or_is_not_there() {
+    let folder = Folder::new("run-report");
+    let (columns, results) = (folder.folder("in"), folder.path("out"));
+    fs::write(columns.join("a"), bytes(&column(3, 1))).unwrap();
+    assert!(run(&columns, &results).output().unwrap().status.success());
+    assert_eq!(names(&results), ["a", "taripomune-report.tsv"]);
+    fs::write(columns.join("b"), bytes(&column(3, 2))).unwrap();
+    // The result of b can't get its name.
+    fs::create_dir(results.join("b")).unwrap();
+    assert_eq!(run(&columns, &results).output().unwrap().status.code(), Some(1));
+    assert_eq!(names(&results), ["a", "b"]);
+    fs::remove_dir(results.join("b")).unwrap();
+    assert!(run(&columns, &results).output().unwrap().status.success());
+    assert_eq!(report(&results), ["a\t8\taccepted", "b\t8\taccepted"]);
 }
 
 #[test]
@@ -139,6 +215,11 @@ fn folders_that_do_not_fit_are_refused() {
         assert!(line.contains(sentence), "{line}");
     };
     ended_with(&mut run(&columns, &columns), 2, "the same folder");
+    symlink(&columns, folder.path("link")).unwrap();
+    ended_with(&mut run(&columns, &folder.path("link")), 2, "the same folder");
+    fs::write(folder.folder("other").join("balances"), "of another program").unwrap();
+    ended_with(&mut run(&columns, &folder.path("other")), 2, "has files that no run wrote");
+    assert_eq!(names(&folder.path("other")), ["balances"]);
     ended_with(&mut run(&folder.path("missing"), &results), 1, "can't be read");
     ended_with(&mut run(&columns, &columns.join("a")), 1, "a: ");
     assert!(!results.exists());
@@ -188,39 +269,43 @@ fn columns_of_2_to_the_20_words_fit_into_256_mib() {
 }
 
 /// Starts a run again and again and kills it so many times, each time after at most `longest`. What is there must then be
-/// whole: as the run has it that never stopped. False if a run came to its end before.
-fn killed(columns: &Path, results: &Path, never_stopped: &Path, kills: usize, longest: Duration) -> bool {
+/// whole: as the run has it that never stopped. Answers how many results there are at the end, or none if a run came to
+/// its end before.
+fn killed(columns: &Path, results: &Path, never_stopped: &Path, kills: usize, longest: Duration) -> Option<usize> {
+    let mut done = Vec::new();
     for _ in 0..kills {
         let mut child = run(columns, results).stdout(Stdio::null()).stderr(Stdio::null()).spawn().unwrap();
         sleep(Duration::from_nanos(random(longest.as_nanos() as u64)));
         child.kill().unwrap();
-        if child.wait().unwrap().signal().is_none() {
-            return false;
-        }
-        for name in if results.exists() { names(results) } else { Vec::new() } {
-            let same = fs::read(results.join(&name)).unwrap() == fs::read(never_stopped.join(&name)).unwrap();
+        child.wait().unwrap().signal()?;
+        done = if results.exists() { names(results) } else { Vec::new() };
+        for name in &done {
+            let same = fs::read(results.join(name)).unwrap() == fs::read(never_stopped.join(name)).unwrap();
             assert!(same, "{name} isn't whole");
         }
     }
-    true
+    Some(done.len())
 }
 
 #[test]
 fn a_run_killed_fifty_times_ends_as_one_that_never_stopped() {
     let folder = Folder::new("run-killed");
     let (columns, results, never_stopped) = (folder.folder("in"), folder.path("out"), folder.path("never-stopped"));
-    for start in 0..300 {
-        fs::write(columns.join(format!("{start:03}")), bytes(&column(8 + start % 8, start))).unwrap();
+    for start in 0..150 {
+        fs::write(columns.join(format!("{start:03}")), bytes(&column(8 + start % 6, start))).unwrap();
     }
     let start = Instant::now();
     assert!(run(&columns, &never_stopped).output().unwrap().status.success());
     let mut longest = start.elapsed() / 30;
     assert_whole(&columns, &never_stopped, &names(&columns));
-    while !killed(&columns, &results, &never_stopped, 50, longest) {
-        // It was killed too seldom before the end: from the beginning, and sooner.
-        fs::remove_dir_all(&results).unwrap();
-        longest /= 2;
-    }
+    // The kills must come while it works, so that it is tried again with others if nothing was done, or all.
+    let is_between = (0..10).any(|_| {
+        let _ = fs::remove_dir_all(&results);
+        let done = killed(&columns, &results, &never_stopped, 50, longest);
+        longest = if done == Some(0) { longest * 2 } else { longest / 2 };
+        done.is_some_and(|done| done > 0)
+    });
+    assert!(is_between && names(&results).len() < 150);
     assert!(run(&columns, &results).output().unwrap().status.success());
     assert_eq!(names(&results), names(&never_stopped));
     for name in names(&columns) {

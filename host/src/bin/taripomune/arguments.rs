@@ -38,9 +38,9 @@ taripomune interpolate IN OUT
 taripomune evaluate IN OUT
 
 Reads the column file IN and writes the coefficients of its values, or the values of its coefficients, to OUT. OUT
-appears whole or not at all: it is written under another name beside OUT, synced and renamed. IN and OUT may be the same
-file. If IN is refused, a line on standard error has the refusal's number, its position and a sentence, the exit status
-is 2, and OUT stays as it was.";
+appears whole or not at all, with the permissions of IN: it is written under another name beside OUT, synced and renamed.
+IN and OUT may be the same file. If IN is refused, a line on standard error has the refusal's number, its position and a
+sentence, the exit status is 2, and OUT stays as it was.";
 
 const RUN_HELP: &str = "\
 taripomune run [--evaluate] IN_DIR OUT_DIR
@@ -48,13 +48,16 @@ taripomune run [--evaluate] IN_DIR OUT_DIR
 Interpolates every column file of IN_DIR, in the order of the names, to a file of the same name in OUT_DIR; with
 --evaluate it evaluates them. Folders, files whose names begin with a dot and the report of another run aren't taken. A
 refused file is told on standard error and has no file in OUT_DIR, and the run goes on; so it does past a file that
-can't be read. On a terminal a line shows the columns done, columns a minute and the time left.
+can't be read. On a terminal a line shows the columns done, columns a minute and the time left. OUT_DIR is made if it
+isn't there; it must be empty or have been OUT_DIR before.
 
 At the end taripomune-report.tsv in OUT_DIR has a line for each column file: its name, its words, 'accepted' or the
-refusal's number and position, milliseconds; tabs between them. Bytes of a name that aren't text are written as \\xHH.
+refusal's number and position or 'unreadable', milliseconds; tabs between them. Characters of a name that don't print
+are written as \\xHH. While a run goes on, or if it was stopped, there is no report.
 
 It may be stopped at any moment and started again: it goes on with the columns that aren't done, and does those again
-whose file has another length or time than before. OUT_DIR never holds a half-written column.
+whose files aren't what they were. OUT_DIR never holds a half-written column. The results of files that were taken out of
+IN_DIR stay.
 
 Exit status: 0 every column was accepted; 2 one was refused; 1 one couldn't be read, or the run couldn't go on.";
 
@@ -83,7 +86,7 @@ pub fn read(words: &[OsString]) -> Result<Command, Failure> {
         Some("interpolate") => (TRANSFORM_HELP, |options| transform(Direction::Interpolate, options)),
         Some("evaluate") => (TRANSFORM_HELP, |options| transform(Direction::Evaluate, options)),
         Some("run") => (RUN_HELP, run),
-        Some("demo") => (DEMO_HELP, |options| options.paths::<0>("").map(|[]| Command::Demo)),
+        Some("demo") => (DEMO_HELP, |options| options.paths("nothing more").map(|[]| Command::Demo)),
         Some("bench") => (BENCH_HELP, bench),
         _ => return Err(bad(&format!("{} is no command; 'taripomune --help' lists them", name.display()))),
     };
@@ -126,9 +129,7 @@ impl Options {
         if self.evaluate {
             return Err(bad("--evaluate is an option of 'taripomune run' alone"));
         }
-        let wanted = if N == 0 { "nothing more" } else { names };
-        let count = self.paths.len();
-        self.paths.try_into().map_err(|_| bad(&format!("the command takes {wanted}; there are {count} words after it")))
+        self.paths.try_into().map_err(|_| bad(&format!("the command takes {names}; --help after it says more")))
     }
 }
 
@@ -148,7 +149,7 @@ fn run(options: Options) -> Result<Command, Failure> {
 
 fn bench(options: Options) -> Result<Command, Failure> {
     match options.paths.len() {
-        0 => options.paths("").map(|[]| Command::Bench(None)),
+        0 => options.paths("one DIR at most").map(|[]| Command::Bench(None)),
         _ => options.paths("one DIR at most").map(|[folder]| Command::Bench(Some(folder))),
     }
 }

@@ -1,15 +1,11 @@
 //! Column files: 2^n words, n from 1 to 30, each as four bytes, the lowest first.
 
 use crate::failure::Failure;
-use std::ffi::OsStr;
-use std::fs::{self, File};
+use std::fs::{self, File, Metadata, Permissions};
 use std::io::{self, ErrorKind, Read, Write};
+use std::os::unix::fs::MetadataExt;
 use std::path::{Path, PathBuf};
-use std::time::SystemTime;
-use taripomune::{Refusal, evaluate, interpolate};
-
-/// The first letters of the names of files that the program makes for itself; no column has such a name.
-pub const OWN: &str = ".taripomune-";
+use taripomune::{MAX_CIRCLE_DOMAIN_LOG_SIZE, MIN_CIRCLE_DOMAIN_LOG_SIZE, Refusal, evaluate, interpolate};
 
 const WORD: usize = size_of::<u32>();
 
@@ -35,8 +31,7 @@ impl Direction {
 pub struct Source {
     path: PathBuf,
     file: File,
-    pub bytes: u64,
-    pub modified: Option<SystemTime>,
+    pub found: Metadata,
 }
 
 impl Source {
@@ -48,10 +43,31 @@ impl Source {
             }
             let file = File::open(path)?;
             let found = file.metadata()?;
-            Ok(Source { path: path.to_path_buf(), file, bytes: found.len(), modified: found.modified().ok() })
+            Ok(Source { path: path.to_path_buf(), file, found })
         };
         open().map_err(Failure::unreadable(path))
     }
+
+    /// Reads a column of so many words. A file that changes meanwhile is none of the columns that it was.
+    fn read(&self, words: usize, column: &mut Vec<u32>) -> io::Result<()> {
+        read_words(&self.file, words, column)?;
+        match is_same(&self.found, &self.file.metadata()?) {
+            true => Ok(()),
+            false => Err(io::Error::other("it changed while it was read")),
+        }
+    }
+}
+
+/// Whether a file is still the one that it was, as far as its length, inode and times tell.
+fn is_same(one: &Metadata, other: &Metadata) -> bool {
+    let stamp = |found: &Metadata| (found.len(), found.ino(), times(found));
+    stamp(one) == stamp(other)
+}
+
+/// When a file's contents, and when anything about it was changed last, in nanoseconds since 1970.
+pub fn times(found: &Metadata) -> (i128, i128) {
+    let nanoseconds = |seconds: i64, more: i64| i128::from(seconds) * 1_000_000_000 + i128::from(more);
+    (nanoseconds(found.mtime(), found.mtime_nsec()), nanoseconds(found.ctime(), found.ctime_nsec()))
 }
 
 /// The words of a column and of scratch, kept from column to column.
@@ -65,10 +81,10 @@ impl Buffers {
     /// Reads a column file and transforms its words, which are then in `column`.
     pub fn transform(&mut self, direction: Direction, source: &Source) -> Result<(), Failure> {
         let refused = |refusal| Failure::Refused(source.path.clone(), refusal);
-        let log_size = log_size(source.bytes).map_err(refused)?;
+        let log_size = log_size(source.found.len()).map_err(refused)?;
         let words = 1 << log_size;
-        self.make_room(words).map_err(Failure::machine(&source.path))?;
-        read_words(&source.file, words, &mut self.column).map_err(Failure::unreadable(&source.path))?;
+        let read = self.make_room(words).and_then(|()| source.read(words, &mut self.column));
+        read.map_err(Failure::unreadable(&source.path))?;
         let transform = match direction {
             Direction::Interpolate => interpolate::<u32>,
             Direction::Evaluate => evaluate::<u32>,
@@ -93,11 +109,11 @@ pub fn log_size(bytes: u64) -> Result<u32, Refusal> {
     if words * WORD as u64 != bytes || !words.is_power_of_two() {
         return Err(Refusal::Length);
     }
-    Some(words.ilog2()).filter(|log_size| (1..=30).contains(log_size)).ok_or(Refusal::LogSize)
+    let log_sizes = MIN_CIRCLE_DOMAIN_LOG_SIZE..=MAX_CIRCLE_DOMAIN_LOG_SIZE;
+    Some(words.ilog2()).filter(|log_size| log_sizes.contains(log_size)).ok_or(Refusal::LogSize)
 }
 
-/// Appends so many words, which must be all that there are: a file that grows or shrinks while it is read is none of
-/// the columns that it was.
+/// Appends so many words, which must be all that there are.
 fn read_words(mut source: impl Read, words: usize, column: &mut Vec<u32>) -> io::Result<()> {
     let changed = |what| io::Error::new(ErrorKind::UnexpectedEof, format!("it became {what} while it was read"));
     let mut piece = vec![0; PIECE];
@@ -118,10 +134,11 @@ fn read_words(mut source: impl Read, words: usize, column: &mut Vec<u32>) -> io:
     }
 }
 
-/// Writes a column file, which appears whole or not at all.
-pub fn write(path: &Path, column: &[u32]) -> Result<(), Failure> {
-    let own = format!("{OWN}{}.part", std::process::id());
-    write_beside(path, OsStr::new(&own), |file| write_words(column, file))
+/// Writes a column file, which appears whole or not at all, for the same users as `source` if there is one.
+pub fn write(path: &Path, column: &[u32], source: Option<&Source>) -> Result<(), Failure> {
+    let permissions = source.map(|source| source.found.permissions());
+    let own = std::process::id().to_string();
+    write_beside(path, &own, permissions, |file| write_words(column, file)).map(|_| ())
 }
 
 pub fn write_words(column: &[u32], file: &mut File) -> io::Result<()> {
@@ -134,27 +151,68 @@ pub fn write_words(column: &[u32], file: &mut File) -> io::Result<()> {
     Ok(())
 }
 
-/// Writes a file under another name beside `path`, syncs it and renames it; if anything fails the other name is gone
-/// and `path` is as it was.
+/// Writes a file under a name of its own beside `path`, syncs it and renames it. If something fails before it is renamed,
+/// nothing is left under the name of its own, and `path` is as it was. Answers what the file is then.
 pub fn write_beside(
     path: &Path,
-    own: &OsStr,
+    own: &str,
+    permissions: Option<Permissions>,
     contents: impl FnOnce(&mut File) -> io::Result<()>,
-) -> Result<(), Failure> {
-    let folder = folder_of(path);
-    let part = folder.join(own);
-    let written = remove(&part).and_then(|()| {
-        let mut file = File::create_new(&part)?;
-        contents(&mut file)?;
-        file.sync_all()?;
-        fs::rename(&part, path)?;
-        sync(folder)
-    });
-    written.map_err(|error| {
-        // The first error is the one to tell.
-        let _ = remove(&part);
+) -> Result<Metadata, Failure> {
+    let write = || {
+        if fs::symlink_metadata(path).is_ok_and(|found| !found.is_file()) {
+            return Err(io::Error::other("what is there isn't a regular file"));
+        }
+        let folder = File::open(folder_of(path))?;
+        let (mut file, part) = create(folder_of(path), own)?;
+        let finish = || {
+            permissions.map_or(Ok(()), |permissions| restrict(&file, permissions))?;
+            contents(&mut file)?;
+            file.sync_all()?;
+            let written = file.metadata()?;
+            fs::rename(&part, path).map(|()| written)
+        };
+        let written = finish().inspect_err(|_| {
+            // The first error is the one to tell.
+            let _ = remove(&part);
+        })?;
+        sync(&folder).map(|()| written)
+    };
+    write().map_err(|error| {
         Failure::Machine(path.to_path_buf(), io::Error::new(error.kind(), format!("can't be written: {error}")))
     })
+}
+
+/// Gives a new file its permissions, where the file system has any.
+fn restrict(file: &File, permissions: Permissions) -> io::Result<()> {
+    match file.set_permissions(permissions) {
+        Err(error) if matches!(error.kind(), ErrorKind::PermissionDenied | ErrorKind::Unsupported) => Ok(()),
+        done => done,
+    }
+}
+
+/// A new file in a folder. What another program has under such a name isn't touched.
+fn create(folder: &Path, own: &str) -> io::Result<(File, PathBuf)> {
+    let mut name = own.to_string();
+    let mut count = 0;
+    loop {
+        let part = part(folder, &name);
+        match File::create_new(&part) {
+            Err(error) if error.kind() == ErrorKind::AlreadyExists => count += 1,
+            created => return created.map(|file| (file, part)),
+        }
+        name = format!("{own}-{count}");
+    }
+}
+
+/// The name of a file that the program makes for itself; no column has such a name.
+pub fn own_name(what: &str) -> String {
+    format!(".taripomune-{what}")
+}
+
+/// What a file is called before it is renamed.
+pub fn part(folder: &Path, own: &str) -> PathBuf {
+    folder.join(own_name(&format!("{own}.part")))
 }
 
 /// Removes a file if it is there.
@@ -165,9 +223,12 @@ pub fn remove(path: &Path) -> io::Result<()> {
     }
 }
 
-/// Makes the names in a folder last.
-pub fn sync(folder: &Path) -> io::Result<()> {
-    File::open(folder)?.sync_all()
+/// Makes the names in a folder last, where the file system can do that.
+pub fn sync(folder: &File) -> io::Result<()> {
+    match folder.sync_all() {
+        Err(error) if matches!(error.kind(), ErrorKind::InvalidInput | ErrorKind::Unsupported) => Ok(()),
+        done => done,
+    }
 }
 
 fn folder_of(path: &Path) -> &Path {

@@ -7,6 +7,7 @@ use crate::run::{self, Job};
 use crate::say;
 use std::fs;
 use std::path::{Path, PathBuf};
+use std::time::UNIX_EPOCH;
 use taripomune::{Field, M31, P};
 
 /// A column for each hour,
@@ -24,36 +25,41 @@ pub fn demo() -> Result<(), Failure> {
     fs::create_dir(&values).map_err(Failure::machine(&values))?;
     let mut balances = Balances(M31::one());
     for hour in 0..HOURS {
-        column_file::write(&values.join(name(hour)), &balances.column())?;
+        column_file::write(&values.join(name(hour)), &balances.column(), None)?;
     }
     say(&format!("A day of sample balances: {HOURS} columns of {} cards, 0.00 to 20.47 each.", 1 << LOG_CARDS));
     let there = run(Direction::Interpolate, &values, &coefficients)?;
     let back = run(Direction::Evaluate, &coefficients, &returned)?;
-    let mut all = true;
     say(&format!("\nhour  total of the balances  2^{LOG_CARDS} times coefficient 0  returned"));
+    let mut right = 0;
     for hour in 0..HOURS {
-        let [values, coefficients, returned] =
-            [&values, &coefficients, &returned].map(|folder| read(&folder.join(name(hour))));
-        let (values, coefficients) = (values?, coefficients?);
-        let total: u64 = words(&values).map(u64::from).sum();
-        let sum = M31::from(words(&coefficients).next().unwrap_or(0)) * M31::from(2).pow(LOG_CARDS.into());
-        let same = values == returned?;
-        all &= same && u64::from(sum.word()) == total;
-        let yes_or_no = if same { "yes" } else { "no" };
-        say(&format!("  {hour:02}  {:>21}  {:>24}  {yes_or_no:>8}", money(total), money(sum.word().into())));
+        right += usize::from(is_right(hour, &values, &coefficients, &returned)?);
     }
-    say(&format!(
-        "\ninterpolated: {:.1} s, {:.0} columns a minute\nevaluated:    {:.1} s, {:.0} columns a minute\n",
-        there.time.as_secs_f64(),
-        there.rate(),
-        back.time.as_secs_f64(),
-        back.rate()
-    ));
-    if !all {
-        return Err(Failure::Wrong("a column didn't return, or its total is another one".to_string()));
+    say(&format!("\ninterpolated: {}\nevaluated:    {}\n", speed(&there), speed(&back)));
+    if right < HOURS {
+        let wrong = HOURS - right;
+        return Err(Failure::Wrong(format!("{wrong} columns didn't return, or their totals are others")));
     }
     say(&format!("All {HOURS} columns returned, and each total is 2^{LOG_CARDS} times coefficient 0."));
     Ok(())
+}
+
+/// Shows a column's figures: whether it returned, with the total that coefficient 0 gives.
+fn is_right(hour: usize, values: &Path, coefficients: &Path, returned: &Path) -> Result<bool, Failure> {
+    let [values, coefficients, returned] =
+        [values, coefficients, returned].map(|folder| read(&folder.join(name(hour))));
+    let (values, coefficients) = (values?, coefficients?);
+    let total: u64 = words(&values).map(u64::from).sum();
+    let first = M31::from(words(&coefficients).next().unwrap_or(0));
+    let by_coefficient = u64::from((first * M31::from(2).pow(LOG_CARDS.into())).word());
+    let same = values == returned?;
+    let yes_or_no = if same { "yes" } else { "no" };
+    say(&format!("  {hour:02}  {:>21}  {:>24}  {yes_or_no:>8}", money(total), money(by_coefficient)));
+    Ok(same && by_coefficient == total)
+}
+
+fn speed(summary: &Summary) -> String {
+    format!("{:.1} s, {:.0} columns a minute", summary.time.as_secs_f64(), summary.rate())
 }
 
 fn name(hour: usize) -> String {
@@ -61,7 +67,7 @@ fn name(hour: usize) -> String {
 }
 
 fn run(direction: Direction, columns: &Path, results: &Path) -> Result<Summary, Failure> {
-    let summary = run::run(&Job { direction, columns, results, quiet: false })?;
+    let summary = run::run(&Job { direction, columns, results })?;
     match summary.accepted {
         HOURS => Ok(summary),
         accepted => Err(Failure::Wrong(format!("only {accepted} of {HOURS} columns were accepted"))),
@@ -101,7 +107,8 @@ struct Day {
 
 impl Day {
     fn new() -> Result<Day, Failure> {
-        let folder = std::env::temp_dir().join(format!("taripomune-demo-{}", std::process::id()));
+        let nanoseconds = UNIX_EPOCH.elapsed().map_or(0, |time| time.as_nanos());
+        let folder = std::env::temp_dir().join(format!("taripomune-demo-{}-{nanoseconds}", std::process::id()));
         fs::create_dir(&folder).map_err(Failure::machine(&folder))?;
         Ok(Day { folder })
     }

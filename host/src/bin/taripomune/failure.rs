@@ -1,5 +1,6 @@
 //! Why a command ends without its result.
 
+use crate::report::escaped;
 use std::fmt;
 use std::io;
 use std::path::{Path, PathBuf};
@@ -11,9 +12,9 @@ pub enum Failure {
     Arguments(String),
     /// The library, or the program by the same table, refuses a file.
     Refused(PathBuf, Refusal),
-    /// A file can't be read.
+    /// A file can't be read, or there is no room for it in memory.
     Unreadable(PathBuf, io::Error),
-    /// Anything else that the machine doesn't do: a file can't be written, or memory isn't there.
+    /// A file can't be written, or something else of the machine fails.
     Machine(PathBuf, io::Error),
     /// A command came to an end, but not to the one it should.
     Wrong(String),
@@ -30,7 +31,7 @@ impl Failure {
         |error| Failure::Unreadable(path, error)
     }
 
-    /// 2 where other arguments or another file would do, else 1.
+    /// 2 for what is refused, 1 for what fails.
     pub fn status(&self) -> ExitCode {
         match self {
             Failure::Arguments(_) | Failure::Refused(..) => ExitCode::from(2),
@@ -43,9 +44,14 @@ impl fmt::Display for Failure {
     fn fmt(&self, f: &mut fmt::Formatter<'_>) -> fmt::Result {
         match self {
             Failure::Arguments(sentence) | Failure::Wrong(sentence) => write!(f, "{sentence}"),
-            Failure::Refused(path, refusal) => write!(f, "{}: {refusal}", path.display()),
-            Failure::Unreadable(path, error) => write!(f, "{}: can't be read: {error}", path.display()),
-            Failure::Machine(path, error) => write!(f, "{}: {error}", path.display()),
+            Failure::Refused(path, refusal) => write!(f, "{}: {refusal}", shown(path)),
+            Failure::Unreadable(path, error) => write!(f, "{}: can't be read: {error}", shown(path)),
+            Failure::Machine(path, error) => write!(f, "{}: {error}", shown(path)),
         }
     }
+}
+
+/// A path on one line, whatever characters it has.
+pub fn shown(path: &Path) -> String {
+    escaped(path.as_os_str())
 }

@@ -1,18 +1,20 @@
 //! What a run has done, kept in the folder of results, so that a run after it can go on.
 //!
 //! The first line has the direction, each other one a column that is done: number and position of the refusal, or two
-//! zeros, bytes and time of the file, microseconds that it took, name. A line is added when the column's result is in
-//! its place. If a line is lost or cut short, its column is done again, with the same result.
+//! zeros; length, inode and the two times of the file; the time of the result, or zero; microseconds that it took; name.
+//! A line is added when the column's result is in its place. If it is lost or cut short, its column is done again, with
+//! the same result.
 
-use crate::column_file::{Direction, OWN, Source};
-use crate::failure::Failure;
+use crate::column_file::{Direction, own_name, times};
+use crate::failure::{Failure, shown};
 use crate::report::{Outcome, escaped, unescaped};
 use std::collections::HashMap;
 use std::ffi::{OsStr, OsString};
-use std::fs::{File, Metadata, TryLockError};
+use std::fs::{self, File, Metadata, TryLockError};
 use std::io::{self, Read, Seek, SeekFrom, Write};
+use std::os::unix::fs::MetadataExt;
 use std::path::{Path, PathBuf};
-use std::time::{Duration, SystemTime, UNIX_EPOCH};
+use std::time::Duration;
 
 /// How the first line begins.
 const HEAD: &str = "taripomune run 1 ";
@@ -22,20 +24,29 @@ const HEAD: &str = "taripomune run 1 ";
 pub struct Entry {
     pub outcome: Outcome,
     pub bytes: u64,
-    /// Nanoseconds since 1970.
-    modified: i128,
+    inode: u64,
+    times: (i128, i128),
+    /// When the result's contents were changed last; 0 if there is none.
+    result: i128,
     pub time: Duration,
 }
 
 impl Entry {
-    pub fn new(source: &Source, outcome: Outcome, time: Duration) -> Entry {
+    /// The entry of a file, and of its result if it was accepted.
+    pub fn new(found: &Metadata, outcome: Outcome, result: Option<&Metadata>, time: Duration) -> Entry {
         let time = Duration::from_micros(time.as_micros() as u64);
-        Entry { outcome, bytes: source.bytes, modified: nanoseconds(source.modified), time }
+        let result = result.map_or(0, |result| times(result).0);
+        Entry { outcome, bytes: found.len(), inode: found.ino(), times: times(found), result, time }
     }
 
     /// Whether a file is still the one that was read.
     pub fn is_of(&self, found: &Metadata) -> bool {
-        (self.bytes, self.modified) == (found.len(), nanoseconds(found.modified().ok()))
+        (self.bytes, self.inode, self.times) == (found.len(), found.ino(), times(found))
+    }
+
+    /// Whether a result is still the one that was written.
+    pub fn has_result(&self, found: &Metadata) -> bool {
+        found.is_file() && (self.bytes, self.result) == (found.len(), times(found).0)
     }
 
     fn line(&self, name: &OsStr) -> String {
@@ -43,27 +54,23 @@ impl Entry {
             Outcome::Refused(number, position) => (number, position),
             _ => (0, 0),
         };
-        let Entry { bytes, modified, time, .. } = self;
-        format!("{number} {position} {bytes} {modified} {} {}\n", time.as_micros(), escaped(name))
+        let Entry { bytes, inode, times: (modified, changed), result, time, .. } = self;
+        let microseconds = time.as_micros();
+        let name = escaped(name);
+        format!("{number} {position} {bytes} {inode} {modified} {changed} {result} {microseconds} {name}\n")
     }
 
     fn read(line: &str) -> Option<(OsString, Entry)> {
-        let mut words = line.strip_suffix('\n')?.splitn(6, ' ');
+        let mut words = line.strip_suffix('\n')?.splitn(9, ' ');
         let outcome = match (words.next()?.parse().ok()?, words.next()?.parse().ok()?) {
             (0, 0) => Outcome::Accepted,
             (number, position) => Outcome::Refused(number, position),
         };
-        let (bytes, modified) = (words.next()?.parse().ok()?, words.next()?.parse().ok()?);
+        let (bytes, inode) = (words.next()?.parse().ok()?, words.next()?.parse().ok()?);
+        let times = (words.next()?.parse().ok()?, words.next()?.parse().ok()?);
+        let result = words.next()?.parse().ok()?;
         let time = Duration::from_micros(words.next()?.parse().ok()?);
-        Some((unescaped(words.next()?)?, Entry { outcome, bytes, modified, time }))
-    }
-}
-
-fn nanoseconds(time: Option<SystemTime>) -> i128 {
-    match time.map(|time| time.duration_since(UNIX_EPOCH)) {
-        Some(Ok(after)) => after.as_nanos() as i128,
-        Some(Err(before)) => -(before.duration().as_nanos() as i128),
-        None => 0,
+        Some((unescaped(words.next()?)?, Entry { outcome, bytes, inode, times, result, time }))
     }
 }
 
@@ -75,15 +82,16 @@ pub struct Journal {
 }
 
 impl Journal {
-    /// The journal of a folder of results, a new one if there is none.
+    /// The journal of a folder of results, a new one if the folder is empty.
     pub fn open(results: &Path, direction: Direction) -> Result<Journal, Failure> {
-        let path = results.join(format!("{OWN}journal"));
+        let path = results.join(own_name("journal"));
+        check(&path, results)?;
         let open = || File::options().read(true).write(true).create(true).truncate(false).open(&path);
         let mut file = open().map_err(Failure::machine(&path))?;
         match file.try_lock() {
             Ok(()) => {}
             Err(TryLockError::WouldBlock) => {
-                return Err(Failure::Wrong(format!("another run is writing to {}", results.display())));
+                return Err(Failure::Wrong(format!("another run is writing to {}", shown(results))));
             }
             Err(TryLockError::Error(error)) => return Err(Failure::Machine(path, error)),
         }
@@ -113,6 +121,23 @@ impl Journal {
         self.file.write_all(entry.line(name).as_bytes()).map_err(Failure::machine(&self.path))?;
         self.entries.insert(name.to_os_string(), entry);
         Ok(())
+    }
+}
+
+/// A folder that no run has written to must have no files that a result could take the place of.
+fn check(journal: &Path, results: &Path) -> Result<(), Failure> {
+    let is_ours = match fs::symlink_metadata(journal) {
+        Ok(found) => found.is_file(),
+        Err(_) => {
+            let mut names = fs::read_dir(results).map_err(Failure::unreadable(results))?;
+            names.all(|entry| entry.is_ok_and(|entry| entry.file_name().as_encoded_bytes().starts_with(b".")))
+        }
+    };
+    match is_ours {
+        true => Ok(()),
+        false => {
+            Err(Failure::Arguments(format!("{} has files that no run wrote: name another folder", shown(results))))
+        }
     }
 }
 
@@ -157,7 +182,8 @@ mod tests {
     #[test]
     fn an_entry_comes_back_from_its_line() {
         for outcome in [Outcome::Accepted, Outcome::Refused(1, u64::MAX), Outcome::Refused(8, 0)] {
-            let entry = Entry { outcome, bytes: 16, modified: -5, time: Duration::from_micros(1234) };
+            let time = Duration::from_micros(1234);
+            let entry = Entry { outcome, bytes: 16, inode: u64::MAX, times: (-5, 6), result: 7, time };
             let name = OsStr::new("a b\n\\");
             assert_eq!(Entry::read(&entry.line(name)), Some((name.to_os_string(), entry)));
         }
@@ -165,7 +191,7 @@ mod tests {
 
     #[test]
     fn a_line_cut_short_is_left_out_with_all_after_it() {
-        let (head, line) = ("taripomune run 1 interpolate\n", "0 0 8 1 2 a\n");
+        let (head, line) = ("taripomune run 1 interpolate\n", "0 0 8 1 2 3 4 5 a\n");
         let good = head.len() + line.len();
         assert_eq!(entries(&format!("{head}{line}")), Some((1, good)));
         for end in 0..line.len() {

@@ -38,10 +38,10 @@ fn execute(command: Command) -> Result<ExitCode, Failure> {
             let mut buffers = Buffers::default();
             let source = Source::open(&input)?;
             buffers.transform(direction, &source)?;
-            column_file::write(&output, &buffers.column)?;
+            column_file::write(&output, &buffers.column, Some(&source))?;
         }
         Command::Run(direction, columns, results) => {
-            let summary = run::run(&Job { direction, columns: &columns, results: &results, quiet: false })?;
+            let summary = run::run(&Job { direction, columns: &columns, results: &results })?;
             say(&summary.to_string());
             return Ok(summary.status());
         }
@@ -58,5 +58,6 @@ fn say(text: &str) {
 
 /// Writes a line to standard error.
 fn tell(line: &str) {
-    let _ = writeln!(io::stderr(), "taripomune: {line}");
+    // In one piece, so that the lines of two programs don't mix.
+    let _ = io::stderr().write_all(format!("taripomune: {line}\n").as_bytes());
 }

@@ -15,8 +15,8 @@ pub struct Progress {
 }
 
 impl Progress {
-    pub fn new(columns: usize, quiet: bool) -> Progress {
-        Progress { shown: !quiet && io::stderr().is_terminal(), columns, start: Instant::now(), last: None }
+    pub fn new(columns: usize) -> Progress {
+        Progress { shown: io::stderr().is_terminal(), columns, start: Instant::now(), last: None }
     }
 
     /// So many columns are done, some of them by a run before this one.

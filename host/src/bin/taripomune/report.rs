@@ -1,5 +1,6 @@
 //! What a run tells of its columns.
 
+use crate::failure::shown;
 use std::ffi::{OsStr, OsString};
 use std::fmt;
 use std::os::unix::ffi::{OsStrExt, OsStringExt};
@@ -47,16 +48,16 @@ impl fmt::Display for Line<'_> {
 
 /// A name as text without control characters: these, backslashes and bytes that aren't UTF-8 become `\xHH`.
 pub fn escaped(name: &OsStr) -> String {
+    let digits = |bytes: &[u8]| bytes.iter().map(|byte| format!("\\x{byte:02x}")).collect::<String>();
     let mut text = String::new();
-    let add_byte = |text: &mut String, byte: u8| *text += &format!("\\x{byte:02x}");
     for chunk in name.as_bytes().utf8_chunks() {
         for character in chunk.valid().chars() {
-            match character {
-                '\\' | '\0'..' ' | '\x7f' => add_byte(&mut text, character as u8),
-                _ => text.push(character),
+            match character == '\\' || character.is_control() {
+                true => text += &digits(character.encode_utf8(&mut [0; 4]).as_bytes()),
+                false => text.push(character),
             }
         }
-        chunk.invalid().iter().for_each(|byte| add_byte(&mut text, *byte));
+        text += &digits(chunk.invalid());
     }
     text
 }
@@ -127,7 +128,7 @@ impl fmt::Display for Summary {
         if *before < self.columns() {
             write!(f, "; {:.1} s, {:.0} columns a minute", self.time.as_secs_f64(), self.rate())?;
         }
-        write!(f, "\nreport: {}", self.report.display())
+        write!(f, "\nreport: {}", shown(&self.report))
     }
 }
 
@@ -137,12 +138,12 @@ mod tests {
 
     #[test]
     fn names_come_back_from_text() {
-        for name in ["a", "", "a b", "a\tb\n", "\\", "\\x41", "ä", "\u{7f}"] {
+        for name in ["a", "", "a b", "a\tb\n", "\\", "\\x41", "ä", "\u{7f}", "\u{85}"] {
             assert_eq!(unescaped(&escaped(OsStr::new(name))).as_deref(), Some(OsStr::new(name)));
         }
         let bytes: Vec<u8> = (1..=255).collect();
         let text = escaped(OsStr::from_bytes(&bytes));
-        assert!(!text.chars().any(|character| character < ' '));
+        assert!(!text.chars().any(char::is_control));
         assert_eq!(unescaped(&text), Some(OsString::from_vec(bytes)));
     }
 

@@ -1,23 +1,25 @@
 //! The unattended unit: every column file of a folder, one after the other.
 
-use crate::column_file::{Buffers, Direction, OWN, Source, remove, sync, write_beside, write_words};
+use crate::column_file::{Buffers, Direction, Source, part, remove, sync, write_beside, write_words};
 use crate::failure::Failure;
 use crate::journal::{Entry, Journal};
 use crate::progress::Progress;
 use crate::report::{self, Line, Outcome, Summary};
 use crate::tell;
 use std::ffi::{OsStr, OsString};
-use std::fs;
-use std::io::Write;
-use std::path::{Path, PathBuf};
+use std::fs::{self, File};
+use std::io::{self, Write};
+use std::os::unix::fs::MetadataExt;
+use std::path::Path;
 use std::time::{Duration, Instant};
+
+/// What results are called before they get their names. The journal's lock sees to it that there is one at a time.
+const PART: &str = "run";
 
 pub struct Job<'a> {
     pub direction: Direction,
     pub columns: &'a Path,
     pub results: &'a Path,
-    /// Without a progress line.
-    pub quiet: bool,
 }
 
 /// Transforms the columns that aren't done yet, and writes the report of all.
@@ -26,12 +28,14 @@ pub fn run(job: &Job) -> Result<Summary, Failure> {
     fs::create_dir_all(job.results).map_err(Failure::machine(job.results))?;
     check_folders(job)?;
     let mut journal = Journal::open(job.results, job.direction)?;
-    // What a run that was stopped had begun to write.
-    remove(&job.part()).map_err(Failure::machine(job.results))?;
+    let mut summary = Summary { report: job.results.join(report::NAME), ..Summary::default() };
+    // What a run that was stopped had begun to write, and a report that wouldn't be of all columns.
+    for path in [&part(job.results, PART), &summary.report] {
+        remove(path).map_err(Failure::machine(path))?;
+    }
 
     let start = Instant::now();
-    let mut summary = Summary { report: job.results.join(report::NAME), ..Summary::default() };
-    let mut progress = Progress::new(names.len(), job.quiet);
+    let mut progress = Progress::new(names.len());
     let mut buffers = Buffers::default();
     let mut report = String::new();
     for name in &names {
@@ -56,7 +60,7 @@ pub fn run(job: &Job) -> Result<Summary, Failure> {
     }
     progress.clear();
     summary.time = start.elapsed();
-    write_beside(&summary.report, job.part_name().as_os_str(), |file| file.write_all(report.as_bytes()))?;
+    write_beside(&summary.report, PART, None, |file| file.write_all(report.as_bytes()))?;
     Ok(summary)
 }
 
@@ -88,55 +92,67 @@ fn column_names(folder: &Path) -> Result<Vec<OsString>, Failure> {
 
 /// A column's result must not take the column's place.
 fn check_folders(job: &Job) -> Result<(), Failure> {
-    let place = |folder: &Path| fs::canonicalize(folder).map_err(Failure::unreadable(folder));
-    if place(job.columns)? == place(job.results)? {
-        return Err(Failure::Arguments("IN_DIR and OUT_DIR are the same folder: name another one".to_string()));
+    match is_one(job.columns, job.results).map_err(Failure::unreadable(job.columns))? {
+        true => Err(Failure::Arguments("IN_DIR and OUT_DIR are the same folder: name another one".to_string())),
+        false => Ok(()),
     }
-    Ok(())
+}
+
+/// Whether two paths lead to one file or folder.
+fn is_one(one: &Path, other: &Path) -> io::Result<bool> {
+    let place = |path: &Path| fs::metadata(path).map(|found| (found.dev(), found.ino()));
+    Ok(place(one)? == place(other)?)
 }
 
 impl Job<'_> {
-    fn part_name(&self) -> PathBuf {
-        PathBuf::from(format!("{OWN}run.part"))
-    }
-
-    /// Where results are written before they get their names.
-    fn part(&self) -> PathBuf {
-        self.results.join(self.part_name())
-    }
-
-    /// Whether the file is the one that the entry speaks of, and its result is there.
+    /// Whether the file is the one that the entry speaks of, and so is its result.
     fn is_done(&self, name: &OsStr, entry: &Entry) -> bool {
         let same = fs::metadata(self.columns.join(name)).is_ok_and(|found| entry.is_of(&found));
-        let result = fs::metadata(self.results.join(name));
+        let result = fs::symlink_metadata(self.results.join(name));
         same && match entry.outcome {
-            Outcome::Accepted => result.is_ok_and(|result| result.is_file() && result.len() == entry.bytes),
+            Outcome::Accepted => result.is_ok_and(|result| entry.has_result(&result)),
             _ => result.is_err(),
         }
     }
 
-    /// Transforms a column. Refused and unreadable ones are no reason to stop: a refused one has an entry and no
-    /// result, an unreadable one has no entry, and why comes along.
+    /// Transforms a column. Refused and unreadable ones are no reason to stop: a refused one has an entry, neither has a
+    /// result, and why comes along.
     fn transform(&self, name: &OsStr, buffers: &mut Buffers) -> Result<(Option<Entry>, Option<Failure>), Failure> {
         let start = Instant::now();
-        let result = self.results.join(name);
-        let source = match Source::open(&self.columns.join(name)) {
+        let (column, result) = (self.columns.join(name), self.results.join(name));
+        if is_one(&column, &result).unwrap_or(false) {
+            let error = io::Error::other("it is in the place of its result");
+            return Ok((None, Some(Failure::Unreadable(column, error))));
+        }
+        let source = match Source::open(&column) {
             Ok(source) => source,
-            Err(failure) => return Ok((None, Some(failure))),
+            Err(failure) => return self.without_result(name, None, failure),
         };
+        let entry = |outcome, written| Entry::new(&source.found, outcome, written, start.elapsed());
         match buffers.transform(self.direction, &source) {
             Ok(()) => {
-                write_beside(&result, self.part_name().as_os_str(), |file| write_words(&buffers.column, file))?;
-                Ok((Some(Entry::new(&source, Outcome::Accepted, start.elapsed())), None))
+                let permissions = Some(source.found.permissions());
+                let written = write_beside(&result, PART, permissions, |file| write_words(&buffers.column, file))?;
+                Ok((Some(entry(Outcome::Accepted, Some(&written))), None))
             }
             Err(failure @ Failure::Refused(_, refusal)) => {
-                // A file of this name that was accepted before may have left one.
-                remove(&result).and_then(|()| sync(self.results)).map_err(Failure::machine(&result))?;
                 let outcome = Outcome::Refused(refusal.number(), refusal.position());
-                Ok((Some(Entry::new(&source, outcome, start.elapsed())), Some(failure)))
+                self.without_result(name, Some(entry(outcome, None)), failure)
             }
-            Err(failure @ Failure::Unreadable(..)) => Ok((None, Some(failure))),
-            Err(failure) => Err(failure),
+            Err(failure) => self.without_result(name, None, failure),
         }
+    }
+
+    /// Sees to it that a column has no result: an earlier file of its name may have left one.
+    fn without_result(
+        &self,
+        name: &OsStr,
+        entry: Option<Entry>,
+        failure: Failure,
+    ) -> Result<(Option<Entry>, Option<Failure>), Failure> {
+        let result = self.results.join(name);
+        let removed = remove(&result).and_then(|()| sync(&File::open(self.results)?));
+        removed.map_err(Failure::machine(&result))?;
+        Ok((entry, Some(failure)))
     }
 }

@@ -1,11 +1,10 @@
 //! The table and the plot as files.
 
 use super::plot::plot;
-use crate::column_file::{OWN, write_beside};
-use crate::failure::Failure;
+use crate::column_file::write_beside;
+use crate::failure::{Failure, shown};
 use crate::say;
 use speed::Row;
-use std::ffi::OsStr;
 use std::fs;
 use std::io::Write;
 use std::path::Path;
@@ -13,9 +12,9 @@ use std::path::Path;
 /// Writes `benchmark.md` and `benchmark.svg`.
 pub fn write(folder: &Path, rows: &[Row]) -> Result<(), Failure> {
     for (name, text) in [("benchmark.md", table(rows)), ("benchmark.svg", plot(rows))] {
-        let (path, own) = (folder.join(name), format!("{OWN}bench.part"));
-        write_beside(&path, OsStr::new(&own), |file| file.write_all(text.as_bytes()))?;
-        say(&path.display().to_string());
+        let path = folder.join(name);
+        write_beside(&path, "bench", None, |file| file.write_all(text.as_bytes()))?;
+        say(&shown(&path));
     }
     Ok(())
 }
