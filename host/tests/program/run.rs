@@ -5,26 +5,10 @@ use std::ffi::OsStr;
 use std::fs;
 use std::os::unix::ffi::OsStrExt;
 use std::os::unix::fs::symlink;
-use std::os::unix::process::ExitStatusExt;
-use std::path::{Path, PathBuf};
-use std::process::{Command, Stdio};
+use std::path::PathBuf;
+use std::process::Command;
 use std::thread::sleep;
-use std::time::{Duration, Instant};
-
-fn run(columns: &Path, results: &Path) -> Command {
-    let mut command = program();
-    command.arg("run").args([columns, results]);
-    command
-}
-
-/// The results of a folder of good columns must be there, each whole.
-fn assert_whole(columns: &Path, results: &Path, names: &[String]) {
-    for name in names {
-        let words: Vec<u32> =
-            fs::read(columns.join(name)).unwrap().as_chunks().0.iter().map(|word| u32::from_le_bytes(*word)).collect();
-        assert!(fs::read(results.join(name)).unwrap() == bytes(&interpolated(&words)), "{name} isn't whole");
-    }
-}
+use std::time::Duration;
 
 #[test]
 fn a_folder_is_done_past_a_refused_column() {
@@ -266,51 +250,4 @@ fn columns_of_2_to_the_20_words_fit_into_256_mib() {
     let output = limited.arg("run").args([&columns, &results]).output().unwrap();
     assert_eq!(ended(&output), (Some(0), String::new()));
     assert_eq!(report(&results).len(), 3);
-}
-
-/// Starts a run again and again and kills it so many times, each time after at most `longest`. What is there must then be
-/// whole: as the run has it that never stopped. Answers how many results there are at the end, or none if a run came to
-/// its end before.
-fn killed(columns: &Path, results: &Path, never_stopped: &Path, kills: usize, longest: Duration) -> Option<usize> {
-    let mut done = Vec::new();
-    for _ in 0..kills {
-        let mut child = run(columns, results).stdout(Stdio::null()).stderr(Stdio::null()).spawn().unwrap();
-        sleep(Duration::from_nanos(random(longest.as_nanos() as u64)));
-        child.kill().unwrap();
-        child.wait().unwrap().signal()?;
-        done = if results.exists() { names(results) } else { Vec::new() };
-        for name in &done {
-            let same = fs::read(results.join(name)).unwrap() == fs::read(never_stopped.join(name)).unwrap();
-            assert!(same, "{name} isn't whole");
-        }
-    }
-    Some(done.len())
-}
-
-#[test]
-fn a_run_killed_fifty_times_ends_as_one_that_never_stopped() {
-    let folder = Folder::new("run-killed");
-    let (columns, results, never_stopped) = (folder.folder("in"), folder.path("out"), folder.path("never-stopped"));
-    for start in 0..150 {
-        fs::write(columns.join(format!("{start:03}")), bytes(&column(8 + start % 6, start))).unwrap();
-    }
-    let start = Instant::now();
-    assert!(run(&columns, &never_stopped).output().unwrap().status.success());
-    let mut longest = start.elapsed() / 30;
-    assert_whole(&columns, &never_stopped, &names(&columns));
-    // The kills must come while it works, so that it is tried again with others if nothing was done, or all.
-    let is_between = (0..10).any(|_| {
-        let _ = fs::remove_dir_all(&results);
-        let done = killed(&columns, &results, &never_stopped, 50, longest);
-        longest = if done == Some(0) { longest * 2 } else { longest / 2 };
-        done.is_some_and(|done| done > 0)
-    });
-    assert!(is_between && names(&results).len() < 150);
-    assert!(run(&columns, &results).output().unwrap().status.success());
-    assert_eq!(names(&results), names(&never_stopped));
-    for name in names(&columns) {
-        assert_eq!(fs::read(results.join(&name)).unwrap(), fs::read(never_stopped.join(&name)).unwrap());
-    }
-    assert_eq!(report(&results), report(&never_stopped));
-    assert_eq!(left_over(&results), Vec::<PathBuf>::new());
 }

@@ -71,6 +71,22 @@ pub fn program() -> Command {
     Command::new(env!("CARGO_BIN_EXE_taripomune"))
 }
 
+/// `taripomune run` from a folder to a folder.
+pub fn run(columns: &Path, results: &Path) -> Command {
+    let mut command = program();
+    command.arg("run").args([columns, results]);
+    command
+}
+
+/// The results of a folder of good columns must be there, each whole.
+pub fn assert_whole(columns: &Path, results: &Path, names: &[String]) {
+    for name in names {
+        let words: Vec<u32> =
+            fs::read(columns.join(name)).unwrap().as_chunks().0.iter().map(|word| u32::from_le_bytes(*word)).collect();
+        assert!(fs::read(results.join(name)).unwrap() == bytes(&interpolated(&words)), "{name} isn't whole");
+    }
+}
+
 /// The program started by a shell after other commands, such as limits.
 pub fn program_after(commands: &str) -> Command {
     let mut shell = Command::new("sh");

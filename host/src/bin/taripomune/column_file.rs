@@ -104,7 +104,7 @@ impl Buffers {
 
 /// The log size of a column file of so many bytes. A length that is no power of two has none, so that it is refused as
 /// a length; one that has a log size is refused by that.
-pub fn log_size(bytes: u64) -> Result<u32, Refusal> {
+fn log_size(bytes: u64) -> Result<u32, Refusal> {
     let words = bytes / WORD as u64;
     if words * WORD as u64 != bytes || !words.is_power_of_two() {
         return Err(Refusal::Length);
