@@ -18,6 +18,8 @@ fn killed(columns: &Path, results: &Path, never_stopped: &Path, kills: usize, lo
         sleep(Duration::from_nanos(random(longest.as_nanos() as u64)));
         child.kill().unwrap();
         child.wait().unwrap().signal()?;
+        // With its report a run has come to its end.
+        (!results.join("taripomune-report.tsv").exists()).then_some(())?;
         done = if results.exists() { names(results) } else { Vec::new() };
         for name in &done {
             let same = fs::read(results.join(name)).unwrap() == fs::read(never_stopped.join(name)).unwrap();
