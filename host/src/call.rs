@@ -6,7 +6,8 @@ use taripomune_sys::{Reply, tari_bool_reply, tari_u32_reply, tari_u64_reply, tar
 // Lengths and positions are u64 in the library.
 const _: () = assert!(usize::BITS == 64, "the library is made for 64-bit machines");
 
-/// Calls a function of the C interface. Each argument is its kind and a variable; it is passed as its numbers.
+/// Calls a function of the C interface. Each argument is its kind and a variable; it is passed as its numbers, a slice
+/// (`read` or `write`) as its pointer and its length in words.
 macro_rules! call {
     ($function:ident($($kind:ident $value:expr),*)) => { call!(@ $function [] $($kind $value,)*) };
     (@ $function:ident [$($numbers:tt)*]) => { taripomune_sys::$function($($numbers)*) };
@@ -46,6 +47,16 @@ macro_rules! call {
     };
     (@ $function:ident [$($numbers:tt)*] write $v:expr, $($rest:tt)*) => {
         call!(@ $function [$($numbers)* $v.as_mut_ptr().cast(), crate::call::words($v),] $($rest)*)
+    };
+}
+
+/// Calls a function of the C interface that takes slices, as `call` does.
+macro_rules! call_with_slices {
+    ($($call:tt)*) => {
+        // SAFETY: a pointer and a length come from one borrowed slice, and borrowed slices that are written don't
+        // overlap others. Their elements have the layout of words (`Word`, `Batch`, `u32`), and the library leaves there
+        // what it found, words below P, or in a slice of `u32` any words.
+        unsafe { call!($($call)*) }
     };
 }
 

@@ -78,7 +78,7 @@ impl CircleDomain {
         let parts = if log_parts <= self.half_coset.log_size { 1 << log_parts } else { 0 };
         let mut words = vec![0_u32; parts];
         let shifts = words.as_mut_slice();
-        let part = unsafe { call!(tari_circle_domain_split(coset self.half_coset, number log_parts, write shifts)) };
+        let part = call_with_slices!(tari_circle_domain_split(coset self.half_coset, number log_parts, write shifts));
         let part = CircleDomain { half_coset: answer(part)? };
         Ok((part, words.into_iter().map(|word| CirclePointIndex::of_number(word.into())).collect()))
     }

@@ -25,7 +25,7 @@ pub fn bit_reverse_index(i: usize, log_size: u32) -> Result<usize, Refusal> {
 /// # Ok::<(), taripomune::Refusal>(())
 /// ```
 pub fn bit_reverse<T: Word>(v: &mut [T]) -> Result<(), Refusal> {
-    answer(unsafe { call!(tari_bit_reverse(write v)) })
+    answer(call_with_slices!(tari_bit_reverse(write v)))
 }
 
 /// The position, in a column of log size `eval_log_size` in bit-reversed order, of the element `offset` steps of the
@@ -85,7 +85,7 @@ pub fn coset_index_to_circle_domain_index(coset_index: usize, log_domain_size: u
 /// # Ok::<(), taripomune::Refusal>(())
 /// ```
 pub fn bit_reverse_coset_to_circle_domain_order<T: Word>(v: &mut [T]) -> Result<(), Refusal> {
-    answer(unsafe { call!(tari_bit_reverse_coset_to_circle_domain_order(write v)) })
+    answer(call_with_slices!(tari_bit_reverse_coset_to_circle_domain_order(write v)))
 }
 
 /// Writes a column in the order of the canonic coset to `dst` in the order of its circle domain. The words of a longer
@@ -100,7 +100,7 @@ pub fn bit_reverse_coset_to_circle_domain_order<T: Word>(v: &mut [T]) -> Result<
 /// # Ok::<(), taripomune::Refusal>(())
 /// ```
 pub fn coset_order_to_circle_domain_order<T: Word>(values: &[T], dst: &mut [T]) -> Result<(), Refusal> {
-    answer(unsafe { call!(tari_coset_order_to_circle_domain_order(read values, write dst)) })
+    answer(call_with_slices!(tari_coset_order_to_circle_domain_order(read values, write dst)))
 }
 
 /// Undoes [`coset_order_to_circle_domain_order`], and refuses as it does.
@@ -112,5 +112,5 @@ pub fn coset_order_to_circle_domain_order<T: Word>(values: &[T], dst: &mut [T]) 
 /// # Ok::<(), taripomune::Refusal>(())
 /// ```
 pub fn circle_domain_order_to_coset_order<T: Word>(values: &[T], dst: &mut [T]) -> Result<(), Refusal> {
-    answer(unsafe { call!(tari_circle_domain_order_to_coset_order(read values, write dst)) })
+    answer(call_with_slices!(tari_circle_domain_order_to_coset_order(read values, write dst)))
 }

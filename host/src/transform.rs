@@ -17,7 +17,7 @@ use crate::{Refusal, Word};
 /// # Ok::<(), taripomune::Refusal>(())
 /// ```
 pub fn evaluate<T: Word>(log_size: u32, column: &mut [T], scratch: &mut [u32]) -> Result<(), Refusal> {
-    answer(unsafe { call!(tari_evaluate(number log_size, write column, write scratch)) })
+    answer(call_with_slices!(tari_evaluate(number log_size, write column, write scratch)))
 }
 
 /// Rewrites a column of 2^`log_size` values, in the order of [`evaluate`], as the coefficients that give them: there is
@@ -32,5 +32,5 @@ pub fn evaluate<T: Word>(log_size: u32, column: &mut [T], scratch: &mut [u32]) -
 /// # Ok::<(), taripomune::Refusal>(())
 /// ```
 pub fn interpolate<T: Word>(log_size: u32, column: &mut [T], scratch: &mut [u32]) -> Result<(), Refusal> {
-    answer(unsafe { call!(tari_interpolate(number log_size, write column, write scratch)) })
+    answer(call_with_slices!(tari_interpolate(number log_size, write column, write scratch)))
 }

@@ -5,8 +5,7 @@ use crate::Refusal;
 use crate::call::answer;
 use taripomune_sys::tari_write_reply;
 
-/// The two functions of a field. Its elements have the layout of their words, so that a slice of them is lent as it is;
-/// what the library writes are words below P.
+/// The two functions of a field. Its elements have the layout of their words, so that a slice of them is lent as it is.
 pub trait Batch: Sized {
     fn in_place(column: &[Self], dst: &mut [Self]) -> tari_write_reply;
     fn chunked(column: &[Self], dst: &mut [Self], chunk_size: u64) -> tari_write_reply;
@@ -16,11 +15,11 @@ macro_rules! impl_batch {
     ($field:ident, $in_place:ident, $chunked:ident) => {
         impl Batch for $field {
             fn in_place(column: &[$field], dst: &mut [$field]) -> tari_write_reply {
-                unsafe { call!($in_place(read column, write dst)) }
+                call_with_slices!($in_place(read column, write dst))
             }
 
             fn chunked(column: &[$field], dst: &mut [$field], chunk_size: u64) -> tari_write_reply {
-                unsafe { call!($chunked(read column, write dst, number chunk_size)) }
+                call_with_slices!($chunked(read column, write dst, number chunk_size))
             }
         }
     };
