@@ -229,10 +229,10 @@ fn cosets_and_domains_are_their_indices() {
     assert_eq!(coset.repeated_double(2), Coset::new(first * 4, 3));
     for log_size in [0, 31] {
         let subgroup = Coset::subgroup(log_size).unwrap();
-        assert_eq!(
-            (subgroup.index_at(1).value(), subgroup.size()),
-            ((1 << (31 - log_size)) % (1 << 31), 1 << log_size)
-        );
+        assert_eq!((subgroup.size(), subgroup.log_size()), (1 << log_size, log_size));
+        assert_eq!(subgroup.index_at(1), index(1 << (31 - log_size)).reduce());
+        assert_eq!((subgroup.at(1), subgroup.initial()), (subgroup.step(), CirclePoint::zero()));
+        assert_eq!(subgroup.iter_indices().len(), subgroup.size());
     }
     assert_eq!(Coset::odds(0), Coset::new(index(1 << 30), 0));
     assert_eq!(Coset::half_odds(0), Coset::new(index(1 << 29), 0));
