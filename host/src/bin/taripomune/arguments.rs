@@ -56,8 +56,9 @@ refusal's number and position or 'unreadable', milliseconds; tabs between them. 
 are written as \\xHH. While a run goes on, or if it was stopped, there is no report.
 
 It may be stopped at any moment and started again: it goes on with the columns that aren't done, and does those again
-whose files aren't what they were. OUT_DIR never holds a half-written column. The results of files that were taken out of
-IN_DIR stay.
+whose files aren't what they were, by their length, times and inode. OUT_DIR never holds a half-written column. The
+results of files that were taken out of IN_DIR stay. Put columns into IN_DIR whole: a file written to while it is read is
+told as unreadable only if that shows in its length or times.
 
 Exit status: 0 every column was accepted; 2 one was refused; 1 one couldn't be read, or the run couldn't go on.";
 
