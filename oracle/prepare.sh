@@ -1,6 +1,6 @@
-# Read by `run`, `run-speed` and `run-largest`, with the name of a cargo profile: lets `host/sys` make the library where
-# that is missing or old, and sees that the header declares just what it exports. Leaves `cargo_run`, the words of a
-# cargo command that the scripts have in common.
+# Read by `run`, `run-speed` and `run-largest`, with the name of a cargo profile: finds stwo's sources, lets `host/sys`
+# make the library where that is missing or old, and sees that the header declares just what it exports. Leaves
+# `cargo_run`, the words of a cargo command that the scripts have in common.
 root=$(dirname "$oracle")
 library=$root/target/staticlib/libtaripomune.a
 
@@ -9,10 +9,8 @@ if [ -n "${TARIPOMUNE_LIB:-}" ]; then
     export TARIPOMUNE_LIB
     library=$TARIPOMUNE_LIB/libtaripomune.a
 fi
-if [ -n "${STWO_SRC:-}" ]; then
-    STWO_SRC=$(realpath "$STWO_SRC")
-    export STWO_SRC
-fi
+STWO_SRC=$("$oracle/find-stwo")
+export STWO_SRC
 
 options=(--offline --quiet --profile "$1" --target-dir "$root/target/oracle"
     --manifest-path "$oracle/Cargo.toml" --config "$oracle/.cargo/config.toml")
