@@ -61,6 +61,7 @@ tari_cm31_reply tari_cm31_neg(uint32_t a0, uint32_t a1);
 tari_cm31_reply tari_cm31_mul(uint32_t a0, uint32_t a1, uint32_t b0, uint32_t b1);
 tari_cm31_reply tari_cm31_square(uint32_t a0, uint32_t a1);
 tari_cm31_reply tari_cm31_pow(uint32_t a0, uint32_t a1, uint64_t exp_high, uint64_t exp_low);
+tari_cm31_reply tari_cm31_pow2147483645(uint32_t a0, uint32_t a1);
 tari_cm31_reply tari_cm31_inverse(uint32_t a0, uint32_t a1);
 tari_cm31_reply tari_cm31_div(uint32_t a0, uint32_t a1, uint32_t b0, uint32_t b1);
 tari_cm31_reply tari_cm31_complex_conjugate(uint32_t a0, uint32_t a1);
@@ -94,6 +95,7 @@ tari_qm31_reply tari_qm31_mul(uint32_t a0, uint32_t a1, uint32_t a2, uint32_t a3
 tari_qm31_reply tari_qm31_mul_cm31(uint32_t a0, uint32_t a1, uint32_t a2, uint32_t a3, uint32_t b0, uint32_t b1);
 tari_qm31_reply tari_qm31_square(uint32_t a0, uint32_t a1, uint32_t a2, uint32_t a3);
 tari_qm31_reply tari_qm31_pow(uint32_t a0, uint32_t a1, uint32_t a2, uint32_t a3, uint64_t exp_high, uint64_t exp_low);
+tari_qm31_reply tari_qm31_pow2147483645(uint32_t a0, uint32_t a1, uint32_t a2, uint32_t a3);
 tari_qm31_reply tari_qm31_inverse(uint32_t a0, uint32_t a1, uint32_t a2, uint32_t a3);
 tari_qm31_reply tari_qm31_div(uint32_t a0, uint32_t a1, uint32_t a2, uint32_t a3, uint32_t b0, uint32_t b1, uint32_t b2, uint32_t b3);
 tari_qm31_reply tari_qm31_complex_conjugate(uint32_t a0, uint32_t a1, uint32_t a2, uint32_t a3);

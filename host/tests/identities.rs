@@ -117,6 +117,30 @@ fn extensions_are_the_formulas_of_pairs() {
     }
 }
 
+/// Off M31 the power P - 2 isn't the inverse. The power P is the conjugate in CM31, and takes u to u R^((P - 1) / 2).
+#[test]
+fn the_power_p_minus_2_is_that_of_pow() {
+    let exp = u128::from(P) - 2;
+    for a in cm31s() {
+        let power = a.pow2147483645();
+        assert_eq!(power, a.pow(exp));
+        assert_eq!(power * a * a, a.complex_conjugate());
+        assert_ne!(a.inverse(), Ok(power));
+    }
+    let turn = R.pow(u128::from(P / 2));
+    for a in qm31s() {
+        let power = a.pow2147483645();
+        assert_eq!(power, a.pow(exp));
+        assert_eq!(power * a * a, QM31(a.0.complex_conjugate(), a.1.complex_conjugate() * turn));
+        assert_ne!(a.inverse(), Ok(power));
+    }
+    for m in elements() {
+        let power = m.pow2147483645();
+        assert_eq!(CM31::from(m).pow2147483645(), CM31::from(power));
+        assert_eq!(QM31::from(m).pow2147483645(), QM31::from(power));
+    }
+}
+
 #[test]
 fn an_operation_with_m31_is_that_with_its_image() {
     for (a, m) in cm31s().into_iter().zip(elements().into_iter().rev()) {

@@ -30,16 +30,17 @@ fn of_two(name: &[u8], n: [u64; MOST]) -> Reply {
     let a0 = word_at(n, 0);
     let a1 = word_at(n, 1);
     let names =
-        b"cm31_is_zero cm31_from_u32_unchecked cm31_from_m31 cm31_neg cm31_square cm31_inverse cm31_complex_conjugate cm31_try_into_m31";
+        b"cm31_is_zero cm31_from_u32_unchecked cm31_from_m31 cm31_neg cm31_square cm31_pow2147483645 cm31_inverse cm31_complex_conjugate cm31_try_into_m31";
     match place_of(name, names) {
         0 => flag(calls::tari_cm31_is_zero(a0, a1)),
         1 => element(calls::tari_cm31_from_u32_unchecked(a0, a1)),
         2 => element(calls::tari_cm31_from_m31(a0, a1)),
         3 => element(calls::tari_cm31_neg(a0, a1)),
         4 => element(calls::tari_cm31_square(a0, a1)),
-        5 => element(calls::tari_cm31_inverse(a0, a1)),
-        6 => element(calls::tari_cm31_complex_conjugate(a0, a1)),
-        7 => m31(calls::tari_cm31_try_into_m31(a0, a1)),
+        5 => element(calls::tari_cm31_pow2147483645(a0, a1)),
+        6 => element(calls::tari_cm31_inverse(a0, a1)),
+        7 => element(calls::tari_cm31_complex_conjugate(a0, a1)),
+        8 => m31(calls::tari_cm31_try_into_m31(a0, a1)),
         _ => unknown(),
     }
 }

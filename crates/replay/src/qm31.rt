@@ -38,7 +38,7 @@ fn of_four(name: &[u8], n: [u64; MOST]) -> Reply {
     let a2 = word_at(n, 2);
     let a3 = word_at(n, 3);
     let names =
-        b"qm31_is_zero qm31_from_u32_unchecked qm31_from_m31 qm31_from_m31_array qm31_to_m31_array qm31_neg qm31_square qm31_inverse qm31_complex_conjugate qm31_try_into_m31";
+        b"qm31_is_zero qm31_from_u32_unchecked qm31_from_m31 qm31_from_m31_array qm31_to_m31_array qm31_neg qm31_square qm31_pow2147483645 qm31_inverse qm31_complex_conjugate qm31_try_into_m31";
     match place_of(name, names) {
         0 => flag(calls::tari_qm31_is_zero(a0, a1, a2, a3)),
         1 => element(calls::tari_qm31_from_u32_unchecked(a0, a1, a2, a3)),
@@ -47,9 +47,10 @@ fn of_four(name: &[u8], n: [u64; MOST]) -> Reply {
         4 => element(calls::tari_qm31_to_m31_array(a0, a1, a2, a3)),
         5 => element(calls::tari_qm31_neg(a0, a1, a2, a3)),
         6 => element(calls::tari_qm31_square(a0, a1, a2, a3)),
-        7 => element(calls::tari_qm31_inverse(a0, a1, a2, a3)),
-        8 => element(calls::tari_qm31_complex_conjugate(a0, a1, a2, a3)),
-        9 => m31(calls::tari_qm31_try_into_m31(a0, a1, a2, a3)),
+        7 => element(calls::tari_qm31_pow2147483645(a0, a1, a2, a3)),
+        8 => element(calls::tari_qm31_inverse(a0, a1, a2, a3)),
+        9 => element(calls::tari_qm31_complex_conjugate(a0, a1, a2, a3)),
+        10 => m31(calls::tari_qm31_try_into_m31(a0, a1, a2, a3)),
         _ => unknown(),
     }
 }

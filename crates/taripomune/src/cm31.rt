@@ -14,6 +14,7 @@ use crate::reply::cm31_reply;
 use crate::reply::m31_reply;
 use fields::cm31::CM31;
 use fields::cm31::CM31Answer;
+use fields::cm31::pow2147483645;
 use fields::m31::M31;
 
 #[no_mangle]
@@ -98,6 +99,13 @@ pub extern "C" fn tari_cm31_pow(a0: u32, a1: u32, high: u64, low: u64) -> CM31Re
     ensures { λ r. ⌜ r ≡ cm31Reply (powAnswer (ofPair (a0, a1)) (high * 2 ^ 64 + low)) ⌝ }
 {
     cm31_reply(CM31(M31(a0), M31(a1)).pow(high, low))
+}
+
+#[no_mangle]
+pub extern "C" fn tari_cm31_pow2147483645(a0: u32, a1: u32) -> CM31Reply
+    ensures { λ r. ⌜ r ≡ cm31Reply (powAnswer (ofPair (a0, a1)) 2147483645) ⌝ }
+{
+    cm31_reply(pow2147483645(CM31(M31(a0), M31(a1))))
 }
 
 #[no_mangle]

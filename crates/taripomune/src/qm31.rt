@@ -20,6 +20,7 @@ use fields::cm31::CM31;
 use fields::m31::M31;
 use fields::qm31::QM31;
 use fields::qm31::QM31Answer;
+use fields::qm31::pow2147483645;
 
 #[no_mangle]
 pub extern "C" fn tari_qm31_zero() -> QM31Reply
@@ -223,6 +224,13 @@ pub extern "C" fn tari_qm31_pow(
     ensures { λ r. ⌜ r ≡ qm31Reply (powAnswer (ofPairs ((a0, a1), (a2, a3))) (high * 2 ^ 64 + low)) ⌝ }
 {
     qm31_reply(QM31(CM31(M31(a0), M31(a1)), CM31(M31(a2), M31(a3))).pow(high, low))
+}
+
+#[no_mangle]
+pub extern "C" fn tari_qm31_pow2147483645(a0: u32, a1: u32, a2: u32, a3: u32) -> QM31Reply
+    ensures { λ r. ⌜ r ≡ qm31Reply (powAnswer (ofPairs ((a0, a1), (a2, a3))) 2147483645) ⌝ }
+{
+    qm31_reply(pow2147483645(QM31(CM31(M31(a0), M31(a1)), CM31(M31(a2), M31(a3)))))
 }
 
 #[no_mangle]

@@ -20,6 +20,7 @@ pub const P2: u64 = P as u64 * P as u64;
 /// assert_eq!(a * b, CM31::from_u32_unchecked(P - 5, 10)?);
 /// assert_eq!(a * M31::from(3), a + a + a);
 /// assert_eq!(a.inverse()? * a, CM31::one());
+/// assert_eq!(a.pow2147483645() * a.square(), a.complex_conjugate());
 /// assert_eq!(M31::try_from(a), Err(Refusal::Narrowing));
 /// # Ok::<(), Refusal>(())
 /// ```
@@ -46,6 +47,11 @@ impl CM31 {
     /// a + bi.
     pub fn from_m31(a: M31, b: M31) -> CM31 {
         accepted(call!(tari_cm31_from_m31(m31 a, m31 b)))
+    }
+
+    /// Its power P - 2, 0 for 0. It is the inverse only of an element of M31: the power P is `complex_conjugate`.
+    pub fn pow2147483645(self) -> CM31 {
+        accepted(call!(tari_cm31_pow2147483645(cm31 self)))
     }
 
     /// Both parts divided by `rhs`.

@@ -24,6 +24,7 @@ pub const R: CM31 = CM31(M31::of_word(2), M31::of_word(1));
 /// let u = QM31::from_u32_unchecked(0, 0, 1, 0)?;
 /// assert_eq!(u * u, QM31(R, CM31::zero()));
 /// assert_eq!(u.inverse()? * u, QM31::one());
+/// assert_eq!(u.pow2147483645(), u.pow(2147483645));
 /// assert_eq!(M31::try_from(u * M31::from(0)), Ok(M31::zero()));
 /// assert_eq!(u.div(QM31::zero()), Err(Refusal::Inverse(0)));
 /// # Ok::<(), Refusal>(())
@@ -77,6 +78,11 @@ impl QM31 {
     pub fn from_partial_evals(evals: [QM31; SECURE_EXTENSION_DEGREE]) -> QM31 {
         let [a, b, c, d] = evals;
         accepted(call!(tari_qm31_from_partial_evals(qm31 a, qm31 b, qm31 c, qm31 d)))
+    }
+
+    /// Its power P - 2, 0 for 0. It is the inverse only of an element of M31.
+    pub fn pow2147483645(self) -> QM31 {
+        accepted(call!(tari_qm31_pow2147483645(qm31 self)))
     }
 
     /// Both parts times `rhs`.

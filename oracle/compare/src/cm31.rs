@@ -4,7 +4,7 @@ use crate::entry::{entry, words, Entry};
 use crate::kinds::{DIVISOR, EXTENSION_EXPONENT, PAIR, PAIR_DIVISOR, PAIR_NARROWED, WORD};
 use num_traits::{One, Zero};
 use stwo::core::fields::cm31::CM31;
-use stwo::core::fields::m31::M31;
+use stwo::core::fields::m31::{pow2147483645, M31};
 use stwo::core::fields::{ComplexConjugate, FieldExpOps};
 
 pub const ENTRIES: &[Entry] = &[
@@ -20,6 +20,7 @@ pub const ENTRIES: &[Entry] = &[
     entry("cm31_mul", &[PAIR, PAIR], |a| words(a.cm31() * a.cm31())),
     entry("cm31_square", &[PAIR], |a| words(a.cm31().square())),
     entry("cm31_pow", &[PAIR, EXTENSION_EXPONENT], |a| words(a.cm31().pow(a.u128()))),
+    entry("cm31_pow2147483645", &[PAIR], |a| words(pow2147483645(a.cm31()))),
     entry("cm31_inverse", &[PAIR_DIVISOR], |a| words(a.cm31().inverse())),
     entry("cm31_div", &[PAIR, PAIR_DIVISOR], |a| words(a.cm31() / a.cm31())),
     entry("cm31_complex_conjugate", &[PAIR], |a| words(a.cm31().complex_conjugate())),

@@ -4,7 +4,7 @@ use crate::entry::{entry, words, Entry};
 use crate::kinds::{ANY_I32, ANY_U32, BELOW_P_SQUARED, DIVISOR, EXTENSION_EXPONENT, PAIR, WORD};
 use crate::kinds::{QUAD, QUAD_DIVISOR, QUAD_NARROWED};
 use num_traits::{One, Zero};
-use stwo::core::fields::m31::M31;
+use stwo::core::fields::m31::{pow2147483645, M31};
 use stwo::core::fields::qm31::QM31;
 use stwo::core::fields::{ComplexConjugate, FieldExpOps};
 
@@ -30,6 +30,7 @@ pub const ENTRIES: &[Entry] = &[
     entry("qm31_mul_cm31", &[QUAD, PAIR], |a| words(a.qm31().mul_cm31(a.cm31()))),
     entry("qm31_square", &[QUAD], |a| words(a.qm31().square())),
     entry("qm31_pow", &[QUAD, EXTENSION_EXPONENT], |a| words(a.qm31().pow(a.u128()))),
+    entry("qm31_pow2147483645", &[QUAD], |a| words(pow2147483645(a.qm31()))),
     entry("qm31_inverse", &[QUAD_DIVISOR], |a| words(a.qm31().inverse())),
     entry("qm31_div", &[QUAD, QUAD_DIVISOR], |a| words(a.qm31() / a.qm31())),
     entry("qm31_complex_conjugate", &[QUAD], |a| words(a.qm31().complex_conjugate())),
