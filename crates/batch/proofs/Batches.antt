@@ -1,27 +1,31 @@
 -- What the checks of a batch tell, and the parts that a column is inverted in.
 use Prim.Native.Nat.{ℕ, _+_, _-_, _*_, _/_, _%_, _≤_, _<_}
 use mathlib.Core.Path.{_≡_, refl, sym, _∙_, ap, ap₂, subst, subst⁻¹}
-use mathlib.Core.Bool.{Bool, true, false, cond, _&&_, and-eq-true-iff, true≢false}
+use mathlib.Core.Bool.{Bool, true, false, not, cond, _&&_, and-eq-true-iff, true≢false}
 use mathlib.Core.List.{List, _++_}
 use native.Mathlib.Nat as N
 use native.Mathlib.Decide.{decLt}
 use native.Mathlib.Omega.{arith}
-use lib.Dec.{leb, ltb, eqb}
+use lib.Dec.{leb, eqb}
 use lib.ListN.{length, getD, take, drop, List·getD-append}
 use lib.Seq.{getD-take, getD-drop, getD-append-add, length-take-le}
-use borrow.Author.Tests.{leb-true, leb-false, ltb-false, le-ltb, eqb-true, eqb-false}
+use borrow.Author.Tests.{leb-true, leb-false, le-leb, eqb-true, eqb-false, not-true}
 use borrow.Rule.Slice.PartMut.{midOf, putMid, mid-len}
 use Rattle.algebra.specs.M31.{P}
-use Rattle.batch.specs.Batch.{Layout, ColumnField, m31Column, cm31Column, qm31Column, columnOf, inverted, firstZero, count, lengthsFit, wordsAnswer, batchAnswer}
+use Rattle.batch.specs.Batch.{Layout, ColumnField, m31Column, cm31Column, qm31Column, columnOf, inverted}
+use Rattle.batch.specs.Batch.{firstZero, count, lengthsFit, nonzero, wordsAnswer, batchAnswer, batchExit}
 use Rattle.batch.specs.Layouts.{LayoutLaws}
-use Rattle.batch.specs.Passes.{Units, Column, Holds, at, inverses, unitsOf}
+use Rattle.batch.specs.Passes.{Units, Column, Holds, size, at, inverses, unitsOf}
+use Rattle.batch.specs.PassContracts.{Inverted}
 use Rattle.batch.specs.declared.Field.{Field}
 use Rattle.batch.specs.declared.Field.the-variants as F
 use Rattle.fields.specs.declared.answer.WriteAnswer.{WriteAnswer}
 use Rattle.fields.specs.declared.answer.WriteAnswer.the-variants.{Written, Refused}
 use Rattle.fields.specs.declared.refusal.Refusal.{Refusal}
-use Rattle.fields.specs.declared.refusal.Refusal.the-variants.{Length, Chunk, Word, Inverse}
-use Rattle.fields.specs.Columns.{isBad, firstBad}
+use Rattle.fields.specs.declared.refusal.Refusal.the-variants.{Length, Chunk}
+use Rattle.fields.specs.Columns.{isBad, firstBad, words}
+use Rattle.fields.specs.Check.{need}
+use Rattle.fields.specs.CheckLaws.{Hold, hold-split, hold-passes, accepted-hold}
 use Rattle.fields.specs.SearchLaws.{None, first-none, none-found}
 use Rattle.batch.proofs.Montgomery.{within, inverted-holds, length-inverted}
 
@@ -36,11 +40,6 @@ refused : (why : Refusal) → ¬ (Refused why ≡ Written)
 unfolding isWritten
 refused why e = true≢false (sym (ap isWritten e))
 
-passed-both : (t u : Bool) (a b : Refusal) → cond t (Refused a) (cond u (Refused b) Written) ≡ Written → (t ≡ false) × (u ≡ false)
-passed-both true u a b e = absurd (refused a e)
-passed-both false true a b e = absurd (refused b e)
-passed-both false false a b e = (refl, refl)
-
 module _ (F : ColumnField) (column : List ℕ) where
   -- neither bad words nor zeros: the answer is Written
   pub written : None (isBad column) (length column) → None (zeroAt F column) (count F column) → wordsAnswer F column ≡ Written
@@ -48,38 +47,50 @@ module _ (F : ColumnField) (column : List ℕ) where
   written h k =
       let e = first-none (isBad column) (length column) (length column) refl h in
       let f = first-none (zeroAt F column) (count F column) (count F column) refl k in
-      rw (← e, ← f, le-ltb (length column) (length column) (omega arith), le-ltb (count F column) (count F column) (omega arith))
+      rw (← e, ← f, le-leb (length column) (length column) (omega arith), le-leb (count F column) (count F column) (omega arith))
 
   -- and only then
-  pub no-bad : wordsAnswer F column ≡ Written → None (isBad column) (length column)
+  all-hold : wordsAnswer F column ≡ Written → Hold (words column) × Hold (nonzero F column)
   unfolding wordsAnswer
-  no-bad e = none-found (isBad column) (length column) (ltb-false (firstBad column) (length column) (passed-both (ltb (firstBad column) (length column)) (ltb (firstZero F column) (count F column)) (Word (firstBad column)) (Inverse (firstZero F column)) e .0))
+  all-hold e = hold-split (words column) (nonzero F column) (accepted-hold (words column ++ nonzero F column) Refused Written refused e)
+
+  pub no-bad : wordsAnswer F column ≡ Written → None (isBad column) (length column)
+  no-bad e = none-found (isBad column) (length column) (leb-true (length column) (firstBad column) (all-hold e .0 .0))
 
   pub no-zero : wordsAnswer F column ≡ Written → None (zeroAt F column) (count F column)
-  unfolding wordsAnswer
-  no-zero e = none-found (zeroAt F column) (count F column) (ltb-false (firstZero F column) (count F column) (passed-both (ltb (firstBad column) (length column)) (ltb (firstZero F column) (count F column)) (Word (firstBad column)) (Inverse (firstZero F column)) e .1))
-
-passed-three : (t u : Bool) (a b : Refusal) (x : WriteAnswer) → cond t (cond u (Refused a) x) (Refused b) ≡ Written → (t ≡ true) × (u ≡ false) × (x ≡ Written)
-passed-three true true a b x e = absurd (refused a e)
-passed-three true false a b x e = (refl, refl, e)
-passed-three false u a b x e = absurd (refused b e)
+  no-zero e = none-found (zeroAt F column) (count F column) (leb-true (count F column) (firstZero F column) (all-hold e .1 .0))
 
 -- what an accepted batch passed
+pub record Accepted (F : ColumnField) (chunk : ℕ) (column : List ℕ) (dst : ℕ) : Type 0 where
+  pub whole : length column % F .layout .width ≡ 0
+  pub room : length column ≤ dst
+  pub chunked : 0 < chunk
+  pub words : wordsAnswer F column ≡ Written
+
 pub accepted : (F : ColumnField) (chunk : ℕ) (column : List ℕ) (dst : ℕ) → batchAnswer F chunk column dst ≡ Written
-    → (length column % F .layout .width ≡ 0) × (length column ≤ dst) × (0 < chunk) × (wordsAnswer F column ≡ Written)
-unfolding batchAnswer
+    → Accepted F chunk column dst
+unfolding batchAnswer wordsAnswer
 accepted F chunk column dst e =
-    let p = passed-three (lengthsFit F (length column) dst) (eqb chunk 0) Chunk Length (wordsAnswer F column) e in
-    let q = and-eq-true-iff (eqb (length column % F .layout .width) 0 && eqb (dst % F .layout .width) 0) (leb (length column) dst) .0 (p .0) in
-    let r = and-eq-true-iff (eqb (length column % F .layout .width) 0) (eqb (dst % F .layout .width) 0) .0 (q .0) in
-    (eqb-true (length column % F .layout .width) 0 (r .0), leb-true (length column) dst (q .1), N.pos-of-ne-zero (eqb-false chunk 0 (p .1)), p .2)
+    let tests = need (lengthsFit F (length column) dst) Length ++ (need (not (eqb chunk 0)) Chunk ++ (words column ++ nonzero F column)) in
+    let lengths = hold-split (need (lengthsFit F (length column) dst) Length)
+    (need (not (eqb chunk 0)) Chunk ++ (words column ++ nonzero F column))
+    (accepted-hold tests Refused Written refused e) in
+    let chunks = hold-split (need (not (eqb chunk 0)) Chunk) (words column ++ nonzero F column) (lengths .1) in
+    let q = and-eq-true-iff (eqb (length column % F .layout .width) 0 && eqb (dst % F .layout .width) 0) (leb (length column) dst) .0
+    (lengths .0 .0) in
+    let r = and-eq-true-iff (eqb (length column % F .layout .width) 0) (eqb (dst % F .layout .width) 0) .0 (q .0) in record {
+      whole = eqb-true (length column % F .layout .width) 0 (r .0);
+      room = leb-true (length column) dst (q .1);
+      chunked = N.pos-of-ne-zero (eqb-false chunk 0 (not-true (eqb chunk 0) (chunks .0 .0)));
+      words = hold-passes (words column ++ nonzero F column) Refused Written (chunks .1);
+    }
 
 below : (column : List ℕ) → None (isBad column) (length column) → (j : ℕ) → j < length column → getD column j 0 < P
 below column h j l = leb-false P (getD column j 0) (h .none j l)
 
 -- a column that is accepted holds elements that can be inverted
 pub column-of : (f : Field) (column : List ℕ) → length column % columnOf f .layout .width ≡ 0 → wordsAnswer (columnOf f) column ≡ Written
-    → Column (unitsOf f) (length column / unitsOf f .layout .width) column
+    → Column (unitsOf f) (size (unitsOf f) column) column
 unfolding columnOf unitsOf
 column-of F.M31 column r e =
     let low = below column (no-bad m31Column column e) in record {
@@ -110,13 +121,18 @@ same-width F.M31 = refl
 same-width F.CM31 = refl
 same-width F.QM31 = refl
 
-pub same-inverted : (f : Field) (column dst : List ℕ)
-    → inverted (unitsOf f .layout) (unitsOf f .inverse) (length column / unitsOf f .layout .width) column dst
-    ≡ inverted (columnOf f .layout) (columnOf f .inverse) (count (columnOf f) column) column dst
-unfolding columnOf unitsOf
-same-inverted F.M31 column dst = refl
-same-inverted F.CM31 column dst = refl
-same-inverted F.QM31 column dst = refl
+pub same-exit : (f : Field) {column dst exit : List ℕ} {answer : WriteAnswer} → Written ≡ answer → Inverted (unitsOf f) column dst exit
+    → exit ≡ batchExit (columnOf f) answer column dst
+unfolding columnOf unitsOf batchExit
+same-exit F.M31 {column} {dst} e i = i .result ∙ ap (λ (a : WriteAnswer). batchExit m31Column a column dst) e
+same-exit F.CM31 {column} {dst} e i = i .result ∙ ap (λ (a : WriteAnswer). batchExit cm31Column a column dst) e
+same-exit F.QM31 {column} {dst} e i = i .result ∙ ap (λ (a : WriteAnswer). batchExit qm31Column a column dst) e
+
+-- a refused batch leaves the destination as it is
+pub refused-exit : (F : ColumnField) (column : List ℕ) {dst : List ℕ} {why : Refusal} {answer : WriteAnswer} → Refused why ≡ answer
+    → dst ≡ batchExit F answer column dst
+unfolding batchExit
+refused-exit F column {dst} e = ap (λ (a : WriteAnswer). batchExit F a column dst) e
 
 pub width-positive : (f : Field) → 0 < columnOf f .layout .width
 unfolding columnOf
@@ -277,37 +293,9 @@ module _ (U : Units) (column : List ℕ) (n : ℕ) (c : Column U n column) (from
     pub mid-holds : Holds U (inverses U column) 0 (from / width) dst → Holds U (inverses U column) 0 (to / width) after
     mid-holds = part-holds U column n (from / width) (to / width) c a≤b b≤n dst after enough as-part
 
--- where the next part ends
-module _ (w : ℕ) (positive : 0 < w) where
-  sum-of-elements : (x y : ℕ) → x ≡ x / w * w → y ≡ y / w * w → x + y ≡ (x + y) / w * w
-  sum-of-elements x y e f =
-      let q : x + y ≡ (x / w + y / w) * w = ap₂ _+_ e f ∙ sym (N.add-mul (x / w) (y / w) w) in
-      q ∙ ap (λ (k : ℕ). k * w) (sym (N.mul-div-cancel (x / w + y / w) positive) ∙ ap (λ (k : ℕ). k / w) (sym q))
-
-  pub end-of-part : (from words len to : ℕ) → from ≤ len → to ≡ cond (leb (len - from) words) len (from + words) → from ≡ from / w * w → words ≡ words / w * w
-      → len ≡ len / w * w → (to ≡ to / w * w) × (from ≤ to) × (to ≤ len) × (from < len → 0 < words → from < to)
-  end-of-part from words len to h e f g k = go (leb (len - from) words) refl e
-    where
-      go : (t : Bool) → leb (len - from) words ≡ t → to ≡ cond t len (from + words)
-          → (to ≡ to / w * w) × (from ≤ to) × (to ≤ len) × (from < len → 0 < words → from < to)
-      go true q r = (r ∙ k ∙ ap (λ (j : ℕ). j / w * w) (sym r), omega arith, omega arith, λ l p. omega arith)
-      go false q r =
-          let lt = leb-false (len - from) words q in
-          (r ∙ sum-of-elements from words f g ∙ ap (λ (j : ℕ). j / w * w) (sym r), omega arith, omega arith, λ l p. omega arith)
-
 -- element k lies within the column
 pub fits-whole : (l : List ℕ) (w n k : ℕ) → n ≡ length l / w → k < n → k * w + w ≤ length l
 fits-whole l w n k e h = omega (arith, within w k n h, ap (λ (m : ℕ). m * w) e, N.div-add-mod' (length l) w)
 
 pub chunk-fits : (w chunk column : ℕ) → chunk < column / w → chunk * w ≤ column
 chunk-fits w chunk column h = omega (arith, N.mul-le-mul-right {m = chunk} {n = column / w} w (N.le-of-lt h), N.div-add-mod' column w)
-
--- the words of a part are whole elements, and some
-pub words-of-part : (w chunk column words : ℕ) → 0 < w → 0 < chunk → column ≡ column / w * w → words ≡ cond (leb (column / w) chunk) column (chunk * w)
-    → (0 < column → 0 < words) × (words ≡ words / w * w)
-words-of-part w chunk column words p q h e = go (leb (column / w) chunk) e
-  where
-    go : (t : Bool) → words ≡ cond t column (chunk * w) → (0 < column → 0 < words) × (words ≡ words / w * w)
-    go true r = (λ l. omega arith, r ∙ h ∙ ap (λ (k : ℕ). k / w * w) (sym r))
-    go false r =
-        (λ l. omega (arith, N.mul-le-mul-right {m = 1} {n = chunk} w q, N.one-mul w), r ∙ ap (λ (k : ℕ). k * w) (sym (N.mul-div-cancel chunk p) ∙ ap (λ (k : ℕ). k / w) (sym r)))

@@ -8,7 +8,7 @@ use lib.ListN.{length, getD}
 use borrow.Author.Tests.{lt-leb, ne-eqb}
 use Rattle.algebra.specs.M31.{P}
 use Rattle.fields.specs.declared.answer.WriteAnswer.the-variants.{Written}
-use Rattle.fields.proofs.Seen.{Seen, or-above}
+use Rattle.fields.specs.Seen.{Seen, or-above}
 use Rattle.batch.specs.Batch.{m31Column, wordsAnswer}
 use Rattle.batch.proofs.Batches.{written}
 

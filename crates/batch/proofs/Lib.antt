@@ -2,3 +2,4 @@ pub mod Montgomery
 pub mod Units
 pub mod Batches
 pub mod Invertible
+pub mod Parts

@@ -8,9 +8,11 @@ use native.Mathlib.Decide.{decLt}
 use native.Mathlib.Omega.{arith}
 use lib.ListN.{length, getD, List·getD-eq-default}
 use lib.Seq.{ext-getD}
+use Rattle.fields.specs.PairLaws.{four}
 use Rattle.batch.specs.Batch.{Layout, inverted}
 use Rattle.batch.specs.Layouts.{LayoutLaws, read-other}
-use Rattle.batch.specs.Passes.{Units, Column, Holds, at, product, inverses, pairUnits, laneUnits}
+use Rattle.batch.specs.Passes.{Units, Column, Holds, size, at, product, inverses, pairUnits, laneUnits}
+use Rattle.batch.specs.PassContracts.{Inverting, Inverted, BeforeProducts, AfterProducts, BeforeInverses, AfterInverses}
 
 -- element k of n lies within n elements
 pub within : (w k n : ℕ) → k < n → k * w + w ≤ n * w
@@ -33,32 +35,33 @@ module _ (U : Units) where
   product-unit column n zero c h = c .units 0 h
   product-unit column n (suc k) c h = mul-unit _ _ (product-unit column n k c (omega arith)) (c .units (suc k) h)
 
-  -- four inverses by one
-  module _ (a b c d : El) (u : Unit a × Unit b) (v : Unit c × Unit d) {two three rest rest′ rest″ : El} (e : two ≡ mul a b) (f : three ≡ mul two c)
-      (g : rest ≡ inverse (mul three d)) (h : rest′ ≡ mul rest d) (k : rest″ ≡ mul rest′ c) where
+  -- four inverses by one: x is the four, and whole their product
+  module _ (x : (El × El) × (El × El)) (u : laneUnits U .Unit x) {two three whole rest rest′ rest″ : El}
+      (e : two ≡ mul (x .0 .0) (x .0 .1)) (f : three ≡ mul two (x .1 .0)) (g : whole ≡ mul three (x .1 .1))
+      (h : rest ≡ inverse whole) (i : rest′ ≡ mul rest (x .1 .1))
+      (j : rest″ ≡ mul rest′ (x .1 .0)) where
     two-unit : Unit two
-    two-unit = same-unit _ _ e (mul-unit a b (u .0) (u .1))
+    two-unit = same-unit _ _ e (mul-unit _ _ (u .0 .0) (u .0 .1))
 
     three-unit : Unit three
-    three-unit = same-unit _ _ f (mul-unit two c two-unit (v .0))
+    three-unit = same-unit _ _ f (mul-unit _ _ two-unit (u .1 .0))
 
-    rest′-is : rest′ ≡ inverse three
-    rest′-is = h ∙ ap (λ t. mul t d) g ∙ inverse-first three d three-unit (v .1)
+    rest-is : rest ≡ inverse (mul three (x .1 .1))
+    rest-is = h ∙ ap inverse g
 
-    rest″-is : rest″ ≡ inverse two
-    rest″-is = k ∙ ap (λ t. mul t c) (rest′-is ∙ ap inverse f) ∙ inverse-first two c two-unit (v .0)
+    rest′-is : rest′ ≡ inverse (mul two (x .1 .0))
+    rest′-is = i ∙ ap (λ t. mul t (x .1 .1)) rest-is ∙ inverse-first _ _ three-unit (u .1 .1) ∙ ap inverse f
 
-    pub fourth : mul three rest ≡ inverse d
-    fourth = ap (mul three) g ∙ inverse-second three d three-unit (v .1)
+    rest″-is : rest″ ≡ inverse (mul (x .0 .0) (x .0 .1))
+    rest″-is = j ∙ ap (λ t. mul t (x .1 .0)) rest′-is ∙ inverse-first _ _ two-unit (u .1 .0) ∙ ap inverse e
 
-    pub third : mul two rest′ ≡ inverse c
-    third = ap (mul two) (rest′-is ∙ ap inverse f) ∙ inverse-second two c two-unit (v .0)
-
-    pub second : mul a rest″ ≡ inverse b
-    second = ap (mul a) (rest″-is ∙ ap inverse e) ∙ inverse-second a b (u .0) (u .1)
-
-    pub first : mul rest″ b ≡ inverse a
-    first = ap (λ t. mul t b) (rest″-is ∙ ap inverse e) ∙ inverse-first a b (u .0) (u .1)
+    pub four-inverses : {a b c d : El} → d ≡ mul three rest → c ≡ mul two rest′ → b ≡ mul (x .0 .0) rest″ → a ≡ mul rest″ (x .0 .1)
+        → ((a, b), (c, d)) ≡ laneUnits U .inverse x
+    four-inverses k l m n =
+        four (n ∙ ap (λ t. mul t (x .0 .1)) rest″-is ∙ inverse-first _ _ (u .0 .0) (u .0 .1))
+        (m ∙ ap (mul (x .0 .0)) rest″-is ∙ inverse-second _ _ (u .0 .0) (u .0 .1))
+        (l ∙ ap (mul two) rest′-is ∙ inverse-second _ _ two-unit (u .1 .0))
+        (k ∙ ap (mul three) rest-is ∙ inverse-second _ _ three-unit (u .1 .1))
 
   -- the products, going up: whole is that of the elements below k
   pub next-product : (column : List ℕ) (k : ℕ) (whole a : El) → 0 < k → whole ≡ product U column (k - 1) → a ≡ at U column k
@@ -118,99 +121,152 @@ module _ (U : Units) where
     pub holds-below : (m : ℕ) → m ≤ k → Holds U f 0 k dst → Holds U f 0 m after
     holds-below m le h = record { holds = λ j lo hi. other j (inl (omega arith)) ∙ h .holds j lo (omega arith) }
 
-  -- going up: the elements below k are the products, and whole is the last of them
+  -- some words are some elements
+  pub some-elements : {column : List ℕ} → Column U (size U column) column → 0 < length column → 0 < size U column
+  some-elements {column} c h =
+      elim (decLt 0 (size U column)) [ yes some ↦ some | no none ↦ absurd (N.not-le-of-lt h (no-words (omega arith))) ]
+    where
+      no-words : size U column ≡ 0 → length column ≤ 0
+      no-words e = N.le-of-eq (c .whole ∙ ap (λ (n : ℕ). n * width) e ∙ N.zero-mul width)
+
+  -- element k of the column
+  pub element-unit : {column : List ℕ} {n : ℕ} {a : El} → Column U n column → (k : ℕ) → k < n → a ≡ at U column k → Unit a
+  element-unit c k h e = same-unit _ _ e (c .units k h)
+
+  -- and its place in a destination as long
+  place : {column : List ℕ} {n : ℕ} → Column U n column → (dst : List ℕ) (k : ℕ) → length dst ≡ length column → k < n
+      → k * width + width ≤ length dst
+  place {column} {n} c dst k l h = omega (arith, within width k n h, c .whole)
+
+  -- going up: of n elements those below k are the products, and whole is the last of them
   pub record Up (column dst : List ℕ) (n k : ℕ) (whole : El) : Type 0 where
+    pub count : n ≡ size U column
     pub some : 0 < k
     pub most : k ≤ n
     pub long : length dst ≡ length column
     pub last : whole ≡ product U column (k - 1)
     pub below : Holds U (product U column) 0 k dst
 
-  -- going down: the elements below k are still the products, those above it inverses, and rest is the inverse of the product up to k
-  pub record Down (column dst : List ℕ) (n k : ℕ) (rest : El) : Type 0 where
-    pub low : k < n
-    pub long : length dst ≡ length column
-    pub inverted-product : rest ≡ inverse (product U column k)
-    pub below : Holds U (product U column) 0 k dst
-    pub above : Holds U (inverses U column) (k + 1) n dst
-
-  module _ (column : List ℕ) (n : ℕ) (c : Column U n column) where
-    room : (dst : List ℕ) (k : ℕ) → length dst ≡ length column → k < n → k * width + width ≤ length dst
-    room dst k l h = omega (arith, within width k n h, c .whole)
-
-    pub up-start : (dst after : List ℕ) (whole : El) → 0 < n → length dst ≡ length column → whole ≡ at U column 0 → after ≡ write dst (0 * width) whole
-        → Up column after n 1 whole
+  module _ {column dst₀ : List ℕ} (p : BeforeProducts U column dst₀) where
+    pub up-start : {after : List ℕ} {whole : El} → whole ≡ at U column 0 → after ≡ write dst₀ (0 * width) whole
+        → Up column after (size U column) 1 whole
     unfolding product
-    up-start dst after whole h l e wrote = record {
-      some = omega arith;
-      most = h;
-      long = length-after (product U column) dst 0 whole after wrote ∙ l;
-      last = e;
-      below = holds-next (product U column) dst 0 whole after wrote (holds-none (product U column) dst 0 0 (omega arith)) (room dst 0 l h) e;
-    }
+    up-start {after} {whole} e wrote =
+        let some = some-elements (p .elements) (p .nonempty) in record {
+          count = refl;
+          some = omega arith;
+          most = some;
+          long = length-after (product U column) dst₀ 0 whole after wrote ∙ p .room;
+          last = e;
+          below =
+              holds-next (product U column) dst₀ 0 whole after wrote (holds-none (product U column) dst₀ 0 0 (omega arith))
+              (place (p .elements) dst₀ 0 (p .room) some) e;
+        }
 
-    pub up-unit : (dst : List ℕ) (k : ℕ) (whole : El) → Up column dst n k whole → Unit whole
-    up-unit dst k whole u =
-        same-unit whole (product U column (k - 1)) (u .last) (product-unit column n (k - 1) c (omega (arith, u .some, u .most)))
+    pub first-unit : {a : El} → a ≡ at U column 0 → Unit a
+    first-unit e = element-unit (p .elements) 0 (some-elements (p .elements) (p .nonempty)) e
 
-    pub up-next : (dst after : List ℕ) (k : ℕ) (whole a whole′ : El) → Up column dst n k whole → k < n → a ≡ at U column k → whole′ ≡ mul whole a
-        → after ≡ write dst (k * width) whole′ → Up column after n (k + 1) whole′
-    up-next dst after k whole a whole′ u h e f wrote =
+    pub up-unit : {dst : List ℕ} {n k : ℕ} {whole : El} → Up column dst n k whole → Unit whole
+    up-unit {k = k} u =
+        same-unit _ _ (u .last) (product-unit column (size U column) (k - 1) (p .elements) (omega (arith, u .count, u .some, u .most)))
+
+    pub up-next : {dst after : List ℕ} {n k : ℕ} {whole a whole′ : El} → Up column dst n k whole → k < n → a ≡ at U column k
+        → whole′ ≡ mul whole a → after ≡ write dst (k * width) whole′ → Up column after n (k + 1) whole′
+    up-next {dst} {after} {n} {k} {whole} {a} {whole′} u h e f wrote =
         let g = f ∙ next-product column k whole a (u .some) (u .last) e in
         let same : k + 1 - 1 ≡ k = omega arith in record {
+          count = u .count;
           some = omega arith;
           most = omega arith;
           long = length-after (product U column) dst k whole′ after wrote ∙ u .long;
           last = g;
-          below = holds-next (product U column) dst k whole′ after wrote (u .below) (room dst k (u .long) h) (g ∙ ap (product U column) same);
+          below =
+              holds-next (product U column) dst k whole′ after wrote (u .below)
+              (place (p .elements) dst k (u .long) (omega (arith, u .count))) (g ∙ ap (product U column) same);
         }
 
-    pub up-end : (dst : List ℕ) (k : ℕ) (whole : El) → Up column dst n k whole → n ≤ k → (whole ≡ product U column (n - 1)) × Holds U (product U column) 0 n dst
-    up-end dst k whole u h =
-        let all : k ≡ n = omega (arith, u .most) in
-        (u .last ∙ ap (λ (j : ℕ). product U column (j - 1)) all, holds-part (product U column) dst 0 0 k n (omega arith) h (u .below))
+    pub up-end : {dst : List ℕ} {n k : ℕ} {whole : El} → Up column dst n k whole → n ≤ k → AfterProducts U column dst whole
+    up-end {dst} {n} {k} u h =
+        let all : k ≡ size U column = omega (arith, u .count, u .most) in record {
+          whole = u .last ∙ ap (λ (j : ℕ). product U column (j - 1)) all;
+          products = holds-part (product U column) dst 0 0 k (size U column) (omega arith) (omega arith) (u .below);
+        }
 
-    pub down-start : (dst : List ℕ) (rest : El) → 0 < n → length dst ≡ length column → Holds U (product U column) 0 n dst → rest ≡ inverse (product U column (n - 1))
-        → Down column dst n (n - 1) rest
-    down-start dst rest h l p e = record {
-      low = omega arith;
-      long = l;
-      inverted-product = e;
-      below = holds-part (product U column) dst 0 0 n (n - 1) (omega arith) (omega arith) p;
-      above = holds-none (inverses U column) dst (n - 1 + 1) n (omega arith);
+    -- the whole product can be inverted
+    pub whole-unit : {exit : List ℕ} {whole : El} → AfterProducts U column exit whole → Unit whole
+    whole-unit w =
+        let some = some-elements (p .elements) (p .nonempty) in
+        same-unit _ _ (w .whole) (product-unit column (size U column) (size U column - 1) (p .elements) (omega arith))
+
+    -- from the end of the pass up the pass down starts
+    pub turn : {exit : List ℕ} {whole rest : El} → AfterProducts U column exit whole → length exit ≡ length dst₀ → rest ≡ inverse whole
+        → BeforeInverses U column exit rest
+    turn w l e = record {
+      elements = p .elements;
+      room = l ∙ p .room;
+      nonempty = p .nonempty;
+      products = w .products;
+      inverse = e ∙ ap inverse (w .whole);
     }
 
-    pub down-unit : (dst : List ℕ) (k : ℕ) (rest : El) → Down column dst n k rest → Unit rest
-    down-unit dst k rest d = same-unit rest (inverse (product U column k)) (d .inverted-product) (U .inverse-unit _ (product-unit column n k c (d .low)))
+  -- going down: the elements below k are still the products, those above it inverses, and rest is the inverse of the product up to k
+  pub record Down (column dst : List ℕ) (k : ℕ) (rest : El) : Type 0 where
+    pub low : k < size U column
+    pub long : length dst ≡ length column
+    pub inverted-product : rest ≡ inverse (product U column k)
+    pub below : Holds U (product U column) 0 k dst
+    pub above : Holds U (inverses U column) (k + 1) (size U column) dst
 
-    last-is : (dst : List ℕ) (k : ℕ) (rest last : El) → Down column dst n k rest → 0 < k → last ≡ at U dst (k - 1) → last ≡ product U column (k - 1)
-    last-is dst k rest last d h e = e ∙ d .below .holds (k - 1) (omega arith) (omega arith)
+  module _ {column dst₀ : List ℕ} {rest₀ : El} (p : BeforeInverses U column dst₀ rest₀) where
+    pub down-start : Down column dst₀ (size U column - 1) rest₀
+    down-start =
+        let some = some-elements (p .elements) (p .nonempty) in
+        let n = size U column in record {
+          low = omega arith;
+          long = p .room;
+          inverted-product = p .inverse;
+          below = holds-part (product U column) dst₀ 0 0 n (n - 1) (omega arith) (omega arith) (p .products);
+          above = holds-none (inverses U column) dst₀ (n - 1 + 1) n (omega arith);
+        }
 
-    pub last-unit : (dst : List ℕ) (k : ℕ) (rest last : El) → Down column dst n k rest → 0 < k → last ≡ at U dst (k - 1) → Unit last
-    last-unit dst k rest last d h e =
-        same-unit last (product U column (k - 1)) (last-is dst k rest last d h e) (product-unit column n (k - 1) c (omega (arith, d .low)))
+    pub down-unit : {dst : List ℕ} {k : ℕ} {rest : El} → Down column dst k rest → Unit rest
+    down-unit {k = k} d =
+        same-unit _ _ (d .inverted-product) (U .inverse-unit _ (product-unit column (size U column) k (p .elements) (d .low)))
 
-    pub down-next : (dst after : List ℕ) (k : ℕ) (rest a last x rest′ : El) → Down column dst n k rest → 0 < k → a ≡ at U column k → last ≡ at U dst (k - 1)
-        → x ≡ mul last rest → rest′ ≡ mul rest a → after ≡ write dst (k * width) x → Down column after n (k - 1) rest′
-    down-next dst after k rest a last x rest′ d h e f g i wrote =
-        let y = g ∙ inverse-at column n c k last rest h (d .low) (last-is dst k rest last d h f) (d .inverted-product) in record {
+    last-is : {dst : List ℕ} {k : ℕ} {rest last : El} → Down column dst k rest → 0 < k → last ≡ at U dst (k - 1)
+        → last ≡ product U column (k - 1)
+    last-is {k = k} d h e = e ∙ d .below .holds (k - 1) (omega arith) (omega arith)
+
+    pub last-unit : {dst : List ℕ} {k : ℕ} {rest last : El} → Down column dst k rest → 0 < k → last ≡ at U dst (k - 1) → Unit last
+    last-unit {k = k} d h e =
+        same-unit _ _ (last-is d h e) (product-unit column (size U column) (k - 1) (p .elements) (omega (arith, d .low)))
+
+    pub down-next : {dst after : List ℕ} {k : ℕ} {rest a last x rest′ : El} → Down column dst k rest → 0 < k → a ≡ at U column k
+        → last ≡ at U dst (k - 1) → x ≡ mul last rest → rest′ ≡ mul rest a → after ≡ write dst (k * width) x
+        → Down column after (k - 1) rest′
+    down-next {dst} {after} {k} {rest} {a} {last} {x} d h e f g i wrote =
+        let n = size U column in
+        let y = g ∙ inverse-at column n (p .elements) k last rest h (d .low) (last-is d h f) (d .inverted-product) in record {
           low = omega (arith, d .low);
           long = length-after (inverses U column) dst k x after wrote ∙ d .long;
-          inverted-product = i ∙ rest-below column n c k rest a h (d .low) (d .inverted-product) e;
+          inverted-product = i ∙ rest-below column n (p .elements) k rest a h (d .low) (d .inverted-product) e;
           below = holds-below (product U column) dst k x after wrote (k - 1) (omega arith) (d .below);
           above =
               holds-part (inverses U column) after k (k - 1 + 1) n n (omega arith) (omega arith)
-              (holds-down (inverses U column) dst k x after wrote n (d .above) (room dst k (d .long) (d .low)) y);
+              (holds-down (inverses U column) dst k x after wrote n (d .above) (place (p .elements) dst k (d .long) (d .low)) y);
         }
 
-    pub down-end : (dst after : List ℕ) (k : ℕ) (rest : El) → Down column dst n k rest → k ≡ 0 → after ≡ write dst (0 * width) rest
-        → (length after ≡ length column) × Holds U (inverses U column) 0 n after
+    pub down-end : {dst after : List ℕ} {k : ℕ} {rest : El} → Down column dst k rest → after ≡ write dst (0 * width) rest → k ≡ 0
+        → AfterInverses U column after
     unfolding product
-    down-end dst after k rest d z wrote = (
-      length-after (inverses U column) dst 0 rest after wrote ∙ d .long,
-      holds-down (inverses U column) dst 0 rest after wrote n (holds-part (inverses U column) dst (k + 1) 1 n n (omega arith) (omega arith) (d .above))
-          (room dst 0 (d .long) (omega (arith, d .low))) (d .inverted-product ∙ ap (λ (j : ℕ). inverse (product U column j)) z),
-    )
+    down-end {dst} {after} {k} {rest} d wrote z =
+        let n = size U column in record {
+          result =
+              holds-down (inverses U column) dst 0 rest after wrote n
+              (holds-part (inverses U column) dst (k + 1) 1 n n (omega arith) (omega arith) (d .above))
+              (place (p .elements) dst 0 (d .long) (omega (arith, d .low)))
+              (d .inverted-product ∙ ap (λ (j : ℕ). inverse (product U column j)) z);
+        }
 
   -- a list is known by its elements and the words after them
   pub unique : (f : ℕ → El) (n : ℕ) (l m : List ℕ) → length l ≡ length m → Holds U f 0 n l → Holds U f 0 n m
@@ -260,6 +316,23 @@ module _ (U : Units) where
         → l ≡ inverted layout inverse n column dst
     is-inverted-whole n l e w h = is-inverted n l e (omega arith) h (λ j le. List·getD-eq-default l 0 {n = j} (omega arith) ∙ sym (List·getD-eq-default dst 0 {n = j} (omega arith)))
 
+  -- none to invert
+  pub none-inverted : {column dst : List ℕ} → length column ≡ 0 → Inverted U column dst dst
+  unfolding inverted
+  none-inverted {column} {dst} e = record {
+    result = ap (λ (n : ℕ). inverted layout inverse n column dst) (sym (ap (λ (l : ℕ). l / width) e ∙ N.zero-div width));
+  }
+
+  -- both passes together
+  pub passes-inverted : {column dst exit : List ℕ} → BeforeProducts U column dst → AfterInverses U column exit → length exit ≡ length dst
+      → Inverted U column dst exit
+  passes-inverted {column} {dst} {exit} p w l = record {
+    result = is-inverted-whole column dst (size U column) exit l (p .room ∙ p .elements .whole) (w .result);
+  }
+
+  pub start : {column dst : List ℕ} → Inverting U column dst → 0 < length column → BeforeProducts U column dst
+  start p h = record { elements = p .elements; room = p .room; nonempty = h }
+
   -- elements two by two
   even-place : (k : ℕ) → k * 2 * width ≡ k * (width + width)
   even-place k = N.mul-assoc k 2 width ∙ ap (_*_ k) (N.two-mul width)
@@ -297,24 +370,51 @@ module _ (U : Units) where
           ap (at U dst) (sym q) ∙ odd k (omega arith) ∙ ap (inverses U column) q
 
 -- four by four
-module _ (U : Units) (column : List ℕ) (n m : ℕ) (fours : n ≡ m * 2 * 2) where
-  pub lanes-column : Column U n column → Column (laneUnits U) m column
-  lanes-column c = pair-column (pairUnits U) m column (pair-column U (m * 2) column (subst (λ (k : ℕ). Column U k column) fours c))
+module _ (U : Units) {column dst : List ℕ} (p : Inverting U column dst) (fours : size U column % 4 ≡ 0) where
+  abbrev n : ℕ
+  n = size U column
+
+  abbrev m : ℕ
+  m = size (laneUnits U) column
+
+  quadruple : (w : ℕ) → w + w + (w + w) ≡ w * 2 * 2
+  quadruple w = omega arith
+
+  four-each : n ≡ m * 2 * 2
+  four-each =
+      let by-two : length column / (U .layout .width * 2 * 2) ≡ n / 2 / 2
+      = sym (N.div-div-eq-div-mul (length column) (U .layout .width * 2) 2)
+      ∙ ap (λ (k : ℕ). k / 2) (sym (N.div-div-eq-div-mul (length column) (U .layout .width) 2)) in
+      let same : m ≡ n / 2 / 2 = ap (λ (w : ℕ). length column / w) (quadruple (U .layout .width)) ∙ by-two in
+      omega (arith, same, fours)
 
   lane-words : m * laneUnits U .layout .width ≡ n * U .layout .width
-  lane-words = quadruple m (U .layout .width) ∙ ap (λ (k : ℕ). k * U .layout .width) (sym fours)
+  lane-words =
+      ap (_*_ m) (quadruple (U .layout .width)) ∙ rearranged m (U .layout .width) ∙ ap (λ (k : ℕ). k * U .layout .width) (sym four-each)
     where
-      quadruple : (m w : ℕ) → m * (w + w + (w + w)) ≡ m * 2 * 2 * w
-      quadruple m w =
-          ap (_*_ m) (sym (N.two-mul (w + w)) ∙ ap (_*_ 2) (sym (N.two-mul w))) ∙ sym (N.mul-assoc m 2 (2 * w)) ∙ sym (N.mul-assoc (m * 2) 2 w)
+      rearranged : (m w : ℕ) → m * (w * 2 * 2) ≡ m * 2 * 2 * w
+      rearranged m w =
+          ap (_*_ m) (N.mul-assoc w 2 2 ∙ N.mul-comm w 4) ∙ sym (N.mul-assoc m 4 w) ∙ ap (λ (k : ℕ). k * w) (sym (N.mul-assoc m 2 2))
+
+  pub lanes-start : 0 < length column → BeforeProducts (laneUnits U) column dst
+  lanes-start h = record {
+    elements =
+        pair-column (pairUnits U) m column (pair-column U (m * 2) column (subst (λ (k : ℕ). Column U k column) four-each (p .elements)));
+    room = p .room;
+    nonempty = h;
+  }
 
   -- the lanes leave what one by one would
-  pub lanes-inverted : (dst : List ℕ) → length dst ≡ n * U .layout .width
-      → inverted (laneUnits U .layout) (laneUnits U .inverse) m column dst ≡ inverted (U .layout) (U .inverse) n column dst
-  lanes-inverted dst l =
-      is-inverted-whole U column dst n lanes (length-inverted (laneUnits U) column dst m) l
-      (subst⁻¹ (λ (k : ℕ). Holds U (inverses U column) 0 k lanes) fours
-      (pair-holds U (m * 2) column lanes (pair-holds (pairUnits U) m column lanes (inverted-holds (laneUnits U) column dst m (omega (arith, lane-words))))))
+  pub lanes-inverted : {exit : List ℕ} → Inverted (laneUnits U) column dst exit → Inverted U column dst exit
+  lanes-inverted {exit} i = record {
+    result =
+        i .result ∙ is-inverted-whole U column dst n lanes (length-inverted (laneUnits U) column dst m) (p .room ∙ p .elements .whole)
+        (subst⁻¹ (λ (k : ℕ). Holds U (inverses U column) 0 k lanes) four-each
+        (pair-holds U (m * 2) column lanes (pair-holds (pairUnits U) m column lanes (inverted-holds (laneUnits U) column dst m enough))));
+  }
     where
       lanes : List ℕ
       lanes = inverted (laneUnits U .layout) (laneUnits U .inverse) m column dst
+
+      enough : m * laneUnits U .layout .width ≤ length dst
+      enough = omega (arith, lane-words, p .room, p .elements .whole)

@@ -5,7 +5,7 @@ use lib.Dec.{lit<}
 use Rattle.algebra.specs.M31.{m31}
 use Rattle.algebra.specs.Tower.{cm31, qm31}
 use Rattle.fields.specs.Words.{words31, complexWords, quarticWords}
-use Rattle.fields.specs.Representation.{Unit, one-mul}
+use Rattle.fields.specs.Representation.{one-mul}
 use Rattle.fields.specs.Inverse.{m31-representation, cm31-representation, qm31-representation}
 use Rattle.batch.specs.Passes.{Units, laneUnits, m31Units, cm31Units, qm31Units}
 

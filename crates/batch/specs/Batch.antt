@@ -1,17 +1,18 @@
 -- Batch inversion, for any field: element k of the destination becomes the inverse of element k of the column.
 use Prim.Native.Nat.{ℕ, zero, suc, _+_, _*_, _/_, _%_}
-use mathlib.Core.Bool.{Bool, cond, _&&_}
-use mathlib.Core.List.{List}
-use lib.Dec.{leb, ltb, eqb}
+use mathlib.Core.Bool.{Bool, not, _&&_}
+use mathlib.Core.List.{List, _++_}
+use lib.Dec.{leb, eqb}
 use lib.ListN.{length, getD, set}
 use Rattle.fields.specs.Words.{invP, complexInverse, quarticInverse}
+use Rattle.fields.specs.Check.{Checks, need, checked}
 use Rattle.fields.specs.Search.{first}
-use Rattle.fields.specs.Columns.{firstBad}
+use Rattle.fields.specs.Columns.{words}
 use Rattle.batch.specs.declared.Field.{Field}
 use Rattle.batch.specs.declared.Field.the-variants as F
 use Rattle.fields.specs.declared.answer.WriteAnswer.{WriteAnswer}
 use Rattle.fields.specs.declared.answer.WriteAnswer.the-variants.{Written, Refused}
-use Rattle.fields.specs.declared.refusal.Refusal.the-variants.{Length, Chunk, Word, Inverse}
+use Rattle.fields.specs.declared.refusal.Refusal.the-variants.{Length, Chunk, Inverse}
 
 -- How an element lies in a column: so many words, read and written from a word on.
 pub record Layout : Type 1 where
@@ -78,16 +79,20 @@ module _ (F : ColumnField) where
   abbrev pub lengthsFit : (column dst : ℕ) → Bool
   lengthsFit column dst = eqb (column % F .layout .width) 0 && eqb (dst % F .layout .width) 0 && leb column dst
 
-  -- numbers 1 and 3
-  unfoldable pub wordsAnswer : List ℕ → WriteAnswer
-  wordsAnswer column =
-      cond (ltb (firstBad column) (length column)) (Refused (Word (firstBad column)))
-      (cond (ltb (firstZero column) (count column)) (Refused (Inverse (firstZero column))) Written)
+  -- no element is zero, else number 3 at the first one that is
+  abbrev pub nonzero : List ℕ → Checks
+  nonzero column = need (leb (count column) (firstZero column)) (Inverse (firstZero column))
 
-  -- numbers 8 and 9 before them; a call without chunks has chunk size 1 here
+  unfoldable pub wordsAnswer : List ℕ → WriteAnswer
+  wordsAnswer column = checked (words column ++ nonzero column) Refused Written
+
+  -- such lengths, else number 8; a chunk size that isn't 0, else number 9; then the words. A call without chunks has chunk
+  -- size 1 here
   unfoldable pub batchAnswer : ℕ → List ℕ → ℕ → WriteAnswer
   batchAnswer chunk column dst =
-      cond (lengthsFit (length column) dst) (cond (eqb chunk 0) (Refused Chunk) (wordsAnswer column)) (Refused Length)
+      checked
+      (need (lengthsFit (length column) dst) Length ++ need (not (eqb chunk 0)) Chunk ++ words column ++ nonzero column)
+      Refused Written
 
   -- what a call with this answer leaves in the destination
   unfoldable pub batchExit : WriteAnswer → List ℕ → List ℕ → List ℕ

@@ -3,4 +3,5 @@ pub mod Batch
 -- laws
 pub mod Layouts
 pub mod Passes
+pub mod PassContracts
 pub mod Lanes

@@ -1,5 +1,5 @@
 -- Montgomery's trick, for any field: products up and inverses down a column, one element or four side by side at a time.
-use Prim.Native.Nat.{ℕ, zero, suc, _*_, _≤_, _<_}
+use Prim.Native.Nat.{ℕ, zero, suc, _*_, _/_, _≤_, _<_}
 use mathlib.Core.Path.{_≡_}
 use mathlib.Core.List.{List}
 use lib.ListN.{length}
@@ -83,6 +83,10 @@ unitsOf F.QM31 = qm31Units
 
 module _ (U : Units) where
   open Layout (U .layout) using (El, width, read)
+
+  -- how many elements a column has
+  abbrev pub size : List ℕ → ℕ
+  size column = length column / width
 
   -- element k of a column
   abbrev pub at : List ℕ → ℕ → El

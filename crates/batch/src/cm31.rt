@@ -1,10 +1,10 @@
 // Montgomery's trick on columns of CM31, one inversion for a whole column (the passes of stwo's fields/mod.rs). The
 // columns are known to hold elements that can be inverted: these are no public calls.
 ghost use mathlib.Core.Path.{_≡_};
-ghost use Prim.Native.Nat.{_+_, _/_, _-_, _≤_, _<_};
+ghost use Prim.Native.Nat.{_+_, _≤_};
 ghost use lib.ListN.{length};
-ghost use Rattle.batch.specs.Batch.{inverted};
-ghost use Rattle.batch.specs.Passes.{Column, Holds, product, inverses, laneUnits, cm31Units};
+ghost use Rattle.batch.specs.Passes.{laneUnits, cm31Units};
+ghost use Rattle.batch.specs.PassContracts.{Factors, Inverting, Inverted, BeforeProducts, AfterProducts, BeforeInverses, AfterInverses};
 ghost use Rattle.batch.specs.Lanes.{cm31Lanes};
 ghost use Rattle.fields.specs.CM31.{pairOf};
 use fields::cm31::CM31;
@@ -36,8 +36,8 @@ fn store(dst: &mut [u32], to: usize, a: CM31)
 
 // Element k of the destination becomes the product of the elements 0 to k of the column; the whole product.
 fn products(column: &[u32], dst: &mut [u32]) -> CM31
-    requires { ⌜ (Column cm31Units (length (now column) / 2) (now column)) × (length (now dst) ≡ length (now column)) × (0 < length (now column)) ⌝ }
-    ensures { λ r. ⌜ (pairOf r ≡ product cm31Units (now (column .entry)) (length (now (column .entry)) / 2 - 1)) × Holds cm31Units (product cm31Units (now (column .entry))) 0 (length (now (column .entry)) / 2) (now (dst .exit)) ⌝ }
+    requires { ⌜ BeforeProducts cm31Units (now column) (now dst) ⌝ }
+    ensures { λ r. ⌜ AfterProducts cm31Units (now (column .entry)) (now (dst .exit)) (pairOf r) ⌝ }
 {
     let n = column.len() / WIDTH;
     let mut whole = load(column, 0);
@@ -54,8 +54,8 @@ fn products(column: &[u32], dst: &mut [u32]) -> CM31
 
 // From the products, and the inverse of the whole product, to the inverses.
 fn inverses(column: &[u32], dst: &mut [u32], inverse: CM31)
-    requires { ⌜ (Column cm31Units (length (now column) / 2) (now column)) × (length (now dst) ≡ length (now column)) × (0 < length (now column)) × (Holds cm31Units (product cm31Units (now column)) 0 (length (now column) / 2) (now dst)) × (pairOf inverse ≡ cm31Units .inverse (product cm31Units (now column) (length (now column) / 2 - 1))) ⌝ }
-    ensures { λ _. ⌜ Holds cm31Units (inverses cm31Units (now (column .entry))) 0 (length (now (column .entry)) / 2) (now (dst .exit)) ⌝ }
+    requires { ⌜ BeforeInverses cm31Units (now column) (now dst) (pairOf inverse) ⌝ }
+    ensures { λ _. ⌜ AfterInverses cm31Units (now (column .entry)) (now (dst .exit)) ⌝ }
 {
     let mut rest = inverse;
     let mut k = column.len() / WIDTH - 1;
@@ -71,8 +71,8 @@ fn inverses(column: &[u32], dst: &mut [u32], inverse: CM31)
 
 // one element after the other
 fn classic(column: &[u32], dst: &mut [u32])
-    requires { ⌜ (Column cm31Units (length (now column) / 2) (now column)) × (length (now dst) ≡ length (now column)) ⌝ }
-    ensures { λ _. ⌜ now (dst .exit) ≡ inverted (cm31Units .layout) (cm31Units .inverse) (length (now (column .entry)) / 2) (now (column .entry)) (now (dst .entry)) ⌝ }
+    requires { ⌜ Inverting cm31Units (now column) (now dst) ⌝ }
+    ensures { λ _. ⌜ Inverted cm31Units (now (column .entry)) (now (dst .entry)) (now (dst .exit)) ⌝ }
 {
     if column.len() == 0 {
         return;
@@ -113,7 +113,7 @@ fn lanes_store(dst: &mut [u32], to: usize, a: Lanes)
 }
 
 fn lanes_mul(a: Lanes, b: Lanes) -> Lanes
-    requires { ⌜ (laneUnits cm31Units .Unit (cm31Lanes a)) × (laneUnits cm31Units .Unit (cm31Lanes b)) ⌝ }
+    requires { ⌜ Factors (laneUnits cm31Units) (cm31Lanes a) (cm31Lanes b) ⌝ }
     ensures { λ r. ⌜ cm31Lanes r ≡ laneUnits cm31Units .mul (cm31Lanes a) (cm31Lanes b) ⌝ }
 {
     let a0 = a.0;
@@ -149,8 +149,8 @@ fn lanes_inverse(a: Lanes) -> Lanes
 }
 
 fn lanes_products(column: &[u32], dst: &mut [u32]) -> Lanes
-    requires { ⌜ (Column (laneUnits cm31Units) (length (now column) / 8) (now column)) × (length (now dst) ≡ length (now column)) × (0 < length (now column)) ⌝ }
-    ensures { λ r. ⌜ (cm31Lanes r ≡ product (laneUnits cm31Units) (now (column .entry)) (length (now (column .entry)) / 8 - 1)) × Holds (laneUnits cm31Units) (product (laneUnits cm31Units) (now (column .entry))) 0 (length (now (column .entry)) / 8) (now (dst .exit)) ⌝ }
+    requires { ⌜ BeforeProducts (laneUnits cm31Units) (now column) (now dst) ⌝ }
+    ensures { λ r. ⌜ AfterProducts (laneUnits cm31Units) (now (column .entry)) (now (dst .exit)) (cm31Lanes r) ⌝ }
 {
     let n = column.len() / LANES_WIDTH;
     let one = CM31(M31(1), M31(0));
@@ -168,8 +168,8 @@ fn lanes_products(column: &[u32], dst: &mut [u32]) -> Lanes
 }
 
 fn lanes_inverses(column: &[u32], dst: &mut [u32], inverse: Lanes)
-    requires { ⌜ (Column (laneUnits cm31Units) (length (now column) / 8) (now column)) × (length (now dst) ≡ length (now column)) × (0 < length (now column)) × (Holds (laneUnits cm31Units) (product (laneUnits cm31Units) (now column)) 0 (length (now column) / 8) (now dst)) × (cm31Lanes inverse ≡ laneUnits cm31Units .inverse (product (laneUnits cm31Units) (now column) (length (now column) / 8 - 1))) ⌝ }
-    ensures { λ _. ⌜ Holds (laneUnits cm31Units) (inverses (laneUnits cm31Units) (now (column .entry))) 0 (length (now (column .entry)) / 8) (now (dst .exit)) ⌝ }
+    requires { ⌜ BeforeInverses (laneUnits cm31Units) (now column) (now dst) (cm31Lanes inverse) ⌝ }
+    ensures { λ _. ⌜ AfterInverses (laneUnits cm31Units) (now (column .entry)) (now (dst .exit)) ⌝ }
 {
     let mut rest = inverse;
     let mut k = column.len() / LANES_WIDTH - 1;
@@ -185,8 +185,8 @@ fn lanes_inverses(column: &[u32], dst: &mut [u32], inverse: Lanes)
 
 // four at a time
 fn four_lanes(column: &[u32], dst: &mut [u32])
-    requires { ⌜ (Column (laneUnits cm31Units) (length (now column) / 8) (now column)) × (length (now dst) ≡ length (now column)) × (0 < length (now column)) ⌝ }
-    ensures { λ _. ⌜ now (dst .exit) ≡ inverted (laneUnits cm31Units .layout) (laneUnits cm31Units .inverse) (length (now (column .entry)) / 8) (now (column .entry)) (now (dst .entry)) ⌝ }
+    requires { ⌜ BeforeProducts (laneUnits cm31Units) (now column) (now dst) ⌝ }
+    ensures { λ _. ⌜ Inverted (laneUnits cm31Units) (now (column .entry)) (now (dst .entry)) (now (dst .exit)) ⌝ }
 {
     let whole = lanes_products(column, dst);
     lanes_inverses(column, dst, lanes_inverse(whole));
@@ -195,8 +195,8 @@ fn four_lanes(column: &[u32], dst: &mut [u32])
 // Each element of the destination becomes the inverse of the column's: four at a time where the count is above 4 and a
 // multiple of 4, else one by one.
 pub fn invert(column: &[u32], dst: &mut [u32])
-    requires { ⌜ (Column cm31Units (length (now column) / 2) (now column)) × (length (now dst) ≡ length (now column)) ⌝ }
-    ensures { λ _. ⌜ now (dst .exit) ≡ inverted (cm31Units .layout) (cm31Units .inverse) (length (now (column .entry)) / 2) (now (column .entry)) (now (dst .entry)) ⌝ }
+    requires { ⌜ Inverting cm31Units (now column) (now dst) ⌝ }
+    ensures { λ _. ⌜ Inverted cm31Units (now (column .entry)) (now (dst .entry)) (now (dst .exit)) ⌝ }
 {
     let n = column.len() / WIDTH;
     if n <= 4 {

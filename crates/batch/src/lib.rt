@@ -4,8 +4,9 @@ ghost use mathlib.Core.Bool.{true, cond, _&&_};
 ghost use Prim.Native.Nat.{_+_, _*_, _/_, _-_, _%_, _≤_, _<_};
 ghost use lib.Dec.{leb, eqb};
 ghost use lib.ListN.{length};
-ghost use Rattle.batch.specs.Batch.{columnOf, inverted, firstZero, wordsAnswer, batchAnswer, batchExit, m31Column};
-ghost use Rattle.batch.specs.Passes.{Column, unitsOf};
+ghost use Rattle.batch.specs.Batch.{columnOf, firstZero, wordsAnswer, batchAnswer, batchExit, m31Column};
+ghost use Rattle.batch.specs.Passes.{unitsOf};
+ghost use Rattle.batch.specs.PassContracts.{Inverting, InvertingParts, Inverted};
 ghost use Rattle.fields.specs.declared.answer.WriteAnswer.the-variants.{Written};
 use fields::answer::WriteAnswer;
 use fields::columns::first_bad;
@@ -134,8 +135,8 @@ fn check(field: Field, chunk: usize, column: &[u32], dst: usize) -> WriteAnswer
 
 // One chunk.
 fn invert(field: Field, column: &[u32], dst: &mut [u32])
-    requires { ⌜ (Column (unitsOf field) (length (now column) / unitsOf field .layout .width) (now column)) × (length (now dst) ≡ length (now column)) ⌝ }
-    ensures { λ _. ⌜ now (dst .exit) ≡ inverted (unitsOf field .layout) (unitsOf field .inverse) (length (now (column .entry)) / unitsOf field .layout .width) (now (column .entry)) (now (dst .entry)) ⌝ }
+    requires { ⌜ Inverting (unitsOf field) (now column) (now dst) ⌝ }
+    ensures { λ _. ⌜ Inverted (unitsOf field) (now (column .entry)) (now (dst .entry)) (now (dst .exit)) ⌝ }
 {
     match field {
         Field::M31 => m31::invert(column, dst),
@@ -157,8 +158,8 @@ fn part_end(from: usize, words: usize, len: usize) -> usize
 
 // Part after part of so many words.
 fn invert_parts(field: Field, column: &[u32], dst: &mut [u32], words: usize)
-    requires { ⌜ (Column (unitsOf field) (length (now column) / unitsOf field .layout .width) (now column)) × (length (now column) ≤ length (now dst)) × (0 < length (now column) → 0 < words) × (words ≡ words / unitsOf field .layout .width * unitsOf field .layout .width) ⌝ }
-    ensures { λ _. ⌜ now (dst .exit) ≡ inverted (unitsOf field .layout) (unitsOf field .inverse) (length (now (column .entry)) / unitsOf field .layout .width) (now (column .entry)) (now (dst .entry)) ⌝ }
+    requires { ⌜ InvertingParts (unitsOf field) (now column) (now dst) words ⌝ }
+    ensures { λ _. ⌜ Inverted (unitsOf field) (now (column .entry)) (now (dst .entry)) (now (dst .exit)) ⌝ }
 {
     let mut from: usize = 0;
     while from < column.len() {

@@ -1,10 +1,10 @@
 // Montgomery's trick on columns of M31, one inversion for a whole column (the passes of stwo's fields/mod.rs). The
 // columns are known to hold elements that can be inverted: these are no public calls.
 ghost use mathlib.Core.Path.{_≡_};
-ghost use Prim.Native.Nat.{_+_, _/_, _-_, _≤_, _<_};
+ghost use Prim.Native.Nat.{_+_, _≤_};
 ghost use lib.ListN.{length};
-ghost use Rattle.batch.specs.Batch.{inverted};
-ghost use Rattle.batch.specs.Passes.{Column, Holds, product, inverses, laneUnits, m31Units};
+ghost use Rattle.batch.specs.Passes.{laneUnits, m31Units};
+ghost use Rattle.batch.specs.PassContracts.{Factors, Inverting, Inverted, BeforeProducts, AfterProducts, BeforeInverses, AfterInverses};
 ghost use Rattle.batch.specs.Lanes.{m31Lanes};
 use fields::m31::inner::mul;
 use fields::m31::inner::pow2147483645;
@@ -32,8 +32,8 @@ fn store(dst: &mut [u32], to: usize, a: u32)
 
 // Element k of the destination becomes the product of the elements 0 to k of the column; the whole product.
 fn products(column: &[u32], dst: &mut [u32]) -> u32
-    requires { ⌜ (Column m31Units (length (now column) / 1) (now column)) × (length (now dst) ≡ length (now column)) × (0 < length (now column)) ⌝ }
-    ensures { λ r. ⌜ (r ≡ product m31Units (now (column .entry)) (length (now (column .entry)) / 1 - 1)) × Holds m31Units (product m31Units (now (column .entry))) 0 (length (now (column .entry)) / 1) (now (dst .exit)) ⌝ }
+    requires { ⌜ BeforeProducts m31Units (now column) (now dst) ⌝ }
+    ensures { λ r. ⌜ AfterProducts m31Units (now (column .entry)) (now (dst .exit)) r ⌝ }
 {
     let n = column.len() / WIDTH;
     let mut whole = load(column, 0);
@@ -50,8 +50,8 @@ fn products(column: &[u32], dst: &mut [u32]) -> u32
 
 // From the products, and the inverse of the whole product, to the inverses.
 fn inverses(column: &[u32], dst: &mut [u32], inverse: u32)
-    requires { ⌜ (Column m31Units (length (now column) / 1) (now column)) × (length (now dst) ≡ length (now column)) × (0 < length (now column)) × (Holds m31Units (product m31Units (now column)) 0 (length (now column) / 1) (now dst)) × (inverse ≡ m31Units .inverse (product m31Units (now column) (length (now column) / 1 - 1))) ⌝ }
-    ensures { λ _. ⌜ Holds m31Units (inverses m31Units (now (column .entry))) 0 (length (now (column .entry)) / 1) (now (dst .exit)) ⌝ }
+    requires { ⌜ BeforeInverses m31Units (now column) (now dst) inverse ⌝ }
+    ensures { λ _. ⌜ AfterInverses m31Units (now (column .entry)) (now (dst .exit)) ⌝ }
 {
     let mut rest = inverse;
     let mut k = column.len() / WIDTH - 1;
@@ -67,8 +67,8 @@ fn inverses(column: &[u32], dst: &mut [u32], inverse: u32)
 
 // one element after the other
 fn classic(column: &[u32], dst: &mut [u32])
-    requires { ⌜ (Column m31Units (length (now column) / 1) (now column)) × (length (now dst) ≡ length (now column)) ⌝ }
-    ensures { λ _. ⌜ now (dst .exit) ≡ inverted (m31Units .layout) (m31Units .inverse) (length (now (column .entry)) / 1) (now (column .entry)) (now (dst .entry)) ⌝ }
+    requires { ⌜ Inverting m31Units (now column) (now dst) ⌝ }
+    ensures { λ _. ⌜ Inverted m31Units (now (column .entry)) (now (dst .entry)) (now (dst .exit)) ⌝ }
 {
     if column.len() == 0 {
         return;
@@ -105,7 +105,7 @@ fn lanes_store(dst: &mut [u32], to: usize, a: Lanes)
 }
 
 fn lanes_mul(a: Lanes, b: Lanes) -> Lanes
-    requires { ⌜ (laneUnits m31Units .Unit (m31Lanes a)) × (laneUnits m31Units .Unit (m31Lanes b)) ⌝ }
+    requires { ⌜ Factors (laneUnits m31Units) (m31Lanes a) (m31Lanes b) ⌝ }
     ensures { λ r. ⌜ m31Lanes r ≡ laneUnits m31Units .mul (m31Lanes a) (m31Lanes b) ⌝ }
 {
     Lanes(mul(a.0, b.0), mul(a.1, b.1), mul(a.2, b.2), mul(a.3, b.3))
@@ -129,8 +129,8 @@ fn lanes_inverse(a: Lanes) -> Lanes
 }
 
 fn lanes_products(column: &[u32], dst: &mut [u32]) -> Lanes
-    requires { ⌜ (Column (laneUnits m31Units) (length (now column) / 4) (now column)) × (length (now dst) ≡ length (now column)) × (0 < length (now column)) ⌝ }
-    ensures { λ r. ⌜ (m31Lanes r ≡ product (laneUnits m31Units) (now (column .entry)) (length (now (column .entry)) / 4 - 1)) × Holds (laneUnits m31Units) (product (laneUnits m31Units) (now (column .entry))) 0 (length (now (column .entry)) / 4) (now (dst .exit)) ⌝ }
+    requires { ⌜ BeforeProducts (laneUnits m31Units) (now column) (now dst) ⌝ }
+    ensures { λ r. ⌜ AfterProducts (laneUnits m31Units) (now (column .entry)) (now (dst .exit)) (m31Lanes r) ⌝ }
 {
     let n = column.len() / LANES_WIDTH;
     let ones = Lanes(1, 1, 1, 1);
@@ -147,8 +147,8 @@ fn lanes_products(column: &[u32], dst: &mut [u32]) -> Lanes
 }
 
 fn lanes_inverses(column: &[u32], dst: &mut [u32], inverse: Lanes)
-    requires { ⌜ (Column (laneUnits m31Units) (length (now column) / 4) (now column)) × (length (now dst) ≡ length (now column)) × (0 < length (now column)) × (Holds (laneUnits m31Units) (product (laneUnits m31Units) (now column)) 0 (length (now column) / 4) (now dst)) × (m31Lanes inverse ≡ laneUnits m31Units .inverse (product (laneUnits m31Units) (now column) (length (now column) / 4 - 1))) ⌝ }
-    ensures { λ _. ⌜ Holds (laneUnits m31Units) (inverses (laneUnits m31Units) (now (column .entry))) 0 (length (now (column .entry)) / 4) (now (dst .exit)) ⌝ }
+    requires { ⌜ BeforeInverses (laneUnits m31Units) (now column) (now dst) (m31Lanes inverse) ⌝ }
+    ensures { λ _. ⌜ AfterInverses (laneUnits m31Units) (now (column .entry)) (now (dst .exit)) ⌝ }
 {
     let mut rest = inverse;
     let mut k = column.len() / LANES_WIDTH - 1;
@@ -164,8 +164,8 @@ fn lanes_inverses(column: &[u32], dst: &mut [u32], inverse: Lanes)
 
 // four at a time
 fn four_lanes(column: &[u32], dst: &mut [u32])
-    requires { ⌜ (Column (laneUnits m31Units) (length (now column) / 4) (now column)) × (length (now dst) ≡ length (now column)) × (0 < length (now column)) ⌝ }
-    ensures { λ _. ⌜ now (dst .exit) ≡ inverted (laneUnits m31Units .layout) (laneUnits m31Units .inverse) (length (now (column .entry)) / 4) (now (column .entry)) (now (dst .entry)) ⌝ }
+    requires { ⌜ BeforeProducts (laneUnits m31Units) (now column) (now dst) ⌝ }
+    ensures { λ _. ⌜ Inverted (laneUnits m31Units) (now (column .entry)) (now (dst .entry)) (now (dst .exit)) ⌝ }
 {
     let whole = lanes_products(column, dst);
     lanes_inverses(column, dst, lanes_inverse(whole));
@@ -174,8 +174,8 @@ fn four_lanes(column: &[u32], dst: &mut [u32])
 // Each element of the destination becomes the inverse of the column's: four at a time where the count is above 4 and a
 // multiple of 4, else one by one.
 pub fn invert(column: &[u32], dst: &mut [u32])
-    requires { ⌜ (Column m31Units (length (now column) / 1) (now column)) × (length (now dst) ≡ length (now column)) ⌝ }
-    ensures { λ _. ⌜ now (dst .exit) ≡ inverted (m31Units .layout) (m31Units .inverse) (length (now (column .entry)) / 1) (now (column .entry)) (now (dst .entry)) ⌝ }
+    requires { ⌜ Inverting m31Units (now column) (now dst) ⌝ }
+    ensures { λ _. ⌜ Inverted m31Units (now (column .entry)) (now (dst .entry)) (now (dst .exit)) ⌝ }
 {
     let n = column.len() / WIDTH;
     if n <= 4 {

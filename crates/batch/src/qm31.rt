@@ -1,10 +1,10 @@
 // Montgomery's trick on columns of QM31, one inversion for a whole column (the passes of stwo's fields/mod.rs). The
 // columns are known to hold elements that can be inverted: these are no public calls.
 ghost use mathlib.Core.Path.{_≡_};
-ghost use Prim.Native.Nat.{_+_, _/_, _-_, _≤_, _<_};
+ghost use Prim.Native.Nat.{_+_, _≤_};
 ghost use lib.ListN.{length};
-ghost use Rattle.batch.specs.Batch.{inverted};
-ghost use Rattle.batch.specs.Passes.{Column, Holds, product, inverses, laneUnits, qm31Units};
+ghost use Rattle.batch.specs.Passes.{laneUnits, qm31Units};
+ghost use Rattle.batch.specs.PassContracts.{Factors, Inverting, Inverted, BeforeProducts, AfterProducts, BeforeInverses, AfterInverses};
 ghost use Rattle.batch.specs.Lanes.{qm31Lanes};
 ghost use Rattle.fields.specs.QM31.{pairsOf};
 use fields::cm31::CM31;
@@ -43,8 +43,8 @@ fn store(dst: &mut [u32], to: usize, a: QM31)
 
 // Element k of the destination becomes the product of the elements 0 to k of the column; the whole product.
 fn products(column: &[u32], dst: &mut [u32]) -> QM31
-    requires { ⌜ (Column qm31Units (length (now column) / 4) (now column)) × (length (now dst) ≡ length (now column)) × (0 < length (now column)) ⌝ }
-    ensures { λ r. ⌜ (pairsOf r ≡ product qm31Units (now (column .entry)) (length (now (column .entry)) / 4 - 1)) × Holds qm31Units (product qm31Units (now (column .entry))) 0 (length (now (column .entry)) / 4) (now (dst .exit)) ⌝ }
+    requires { ⌜ BeforeProducts qm31Units (now column) (now dst) ⌝ }
+    ensures { λ r. ⌜ AfterProducts qm31Units (now (column .entry)) (now (dst .exit)) (pairsOf r) ⌝ }
 {
     let n = column.len() / WIDTH;
     let mut whole = load(column, 0);
@@ -61,8 +61,8 @@ fn products(column: &[u32], dst: &mut [u32]) -> QM31
 
 // From the products, and the inverse of the whole product, to the inverses.
 fn inverses(column: &[u32], dst: &mut [u32], inverse: QM31)
-    requires { ⌜ (Column qm31Units (length (now column) / 4) (now column)) × (length (now dst) ≡ length (now column)) × (0 < length (now column)) × (Holds qm31Units (product qm31Units (now column)) 0 (length (now column) / 4) (now dst)) × (pairsOf inverse ≡ qm31Units .inverse (product qm31Units (now column) (length (now column) / 4 - 1))) ⌝ }
-    ensures { λ _. ⌜ Holds qm31Units (inverses qm31Units (now (column .entry))) 0 (length (now (column .entry)) / 4) (now (dst .exit)) ⌝ }
+    requires { ⌜ BeforeInverses qm31Units (now column) (now dst) (pairsOf inverse) ⌝ }
+    ensures { λ _. ⌜ AfterInverses qm31Units (now (column .entry)) (now (dst .exit)) ⌝ }
 {
     let mut rest = inverse;
     let mut k = column.len() / WIDTH - 1;
@@ -78,8 +78,8 @@ fn inverses(column: &[u32], dst: &mut [u32], inverse: QM31)
 
 // one element after the other
 fn classic(column: &[u32], dst: &mut [u32])
-    requires { ⌜ (Column qm31Units (length (now column) / 4) (now column)) × (length (now dst) ≡ length (now column)) ⌝ }
-    ensures { λ _. ⌜ now (dst .exit) ≡ inverted (qm31Units .layout) (qm31Units .inverse) (length (now (column .entry)) / 4) (now (column .entry)) (now (dst .entry)) ⌝ }
+    requires { ⌜ Inverting qm31Units (now column) (now dst) ⌝ }
+    ensures { λ _. ⌜ Inverted qm31Units (now (column .entry)) (now (dst .entry)) (now (dst .exit)) ⌝ }
 {
     if column.len() == 0 {
         return;
@@ -120,7 +120,7 @@ fn lanes_store(dst: &mut [u32], to: usize, a: Lanes)
 }
 
 fn lanes_mul(a: Lanes, b: Lanes) -> Lanes
-    requires { ⌜ (laneUnits qm31Units .Unit (qm31Lanes a)) × (laneUnits qm31Units .Unit (qm31Lanes b)) ⌝ }
+    requires { ⌜ Factors (laneUnits qm31Units) (qm31Lanes a) (qm31Lanes b) ⌝ }
     ensures { λ r. ⌜ qm31Lanes r ≡ laneUnits qm31Units .mul (qm31Lanes a) (qm31Lanes b) ⌝ }
 {
     let a0 = a.0;
@@ -156,8 +156,8 @@ fn lanes_inverse(a: Lanes) -> Lanes
 }
 
 fn lanes_products(column: &[u32], dst: &mut [u32]) -> Lanes
-    requires { ⌜ (Column (laneUnits qm31Units) (length (now column) / 16) (now column)) × (length (now dst) ≡ length (now column)) × (0 < length (now column)) ⌝ }
-    ensures { λ r. ⌜ (qm31Lanes r ≡ product (laneUnits qm31Units) (now (column .entry)) (length (now (column .entry)) / 16 - 1)) × Holds (laneUnits qm31Units) (product (laneUnits qm31Units) (now (column .entry))) 0 (length (now (column .entry)) / 16) (now (dst .exit)) ⌝ }
+    requires { ⌜ BeforeProducts (laneUnits qm31Units) (now column) (now dst) ⌝ }
+    ensures { λ r. ⌜ AfterProducts (laneUnits qm31Units) (now (column .entry)) (now (dst .exit)) (qm31Lanes r) ⌝ }
 {
     let n = column.len() / LANES_WIDTH;
     let one = QM31(CM31(M31(1), M31(0)), CM31(M31(0), M31(0)));
@@ -175,8 +175,8 @@ fn lanes_products(column: &[u32], dst: &mut [u32]) -> Lanes
 }
 
 fn lanes_inverses(column: &[u32], dst: &mut [u32], inverse: Lanes)
-    requires { ⌜ (Column (laneUnits qm31Units) (length (now column) / 16) (now column)) × (length (now dst) ≡ length (now column)) × (0 < length (now column)) × (Holds (laneUnits qm31Units) (product (laneUnits qm31Units) (now column)) 0 (length (now column) / 16) (now dst)) × (qm31Lanes inverse ≡ laneUnits qm31Units .inverse (product (laneUnits qm31Units) (now column) (length (now column) / 16 - 1))) ⌝ }
-    ensures { λ _. ⌜ Holds (laneUnits qm31Units) (inverses (laneUnits qm31Units) (now (column .entry))) 0 (length (now (column .entry)) / 16) (now (dst .exit)) ⌝ }
+    requires { ⌜ BeforeInverses (laneUnits qm31Units) (now column) (now dst) (qm31Lanes inverse) ⌝ }
+    ensures { λ _. ⌜ AfterInverses (laneUnits qm31Units) (now (column .entry)) (now (dst .exit)) ⌝ }
 {
     let mut rest = inverse;
     let mut k = column.len() / LANES_WIDTH - 1;
@@ -192,8 +192,8 @@ fn lanes_inverses(column: &[u32], dst: &mut [u32], inverse: Lanes)
 
 // four at a time
 fn four_lanes(column: &[u32], dst: &mut [u32])
-    requires { ⌜ (Column (laneUnits qm31Units) (length (now column) / 16) (now column)) × (length (now dst) ≡ length (now column)) × (0 < length (now column)) ⌝ }
-    ensures { λ _. ⌜ now (dst .exit) ≡ inverted (laneUnits qm31Units .layout) (laneUnits qm31Units .inverse) (length (now (column .entry)) / 16) (now (column .entry)) (now (dst .entry)) ⌝ }
+    requires { ⌜ BeforeProducts (laneUnits qm31Units) (now column) (now dst) ⌝ }
+    ensures { λ _. ⌜ Inverted (laneUnits qm31Units) (now (column .entry)) (now (dst .entry)) (now (dst .exit)) ⌝ }
 {
     let whole = lanes_products(column, dst);
     lanes_inverses(column, dst, lanes_inverse(whole));
@@ -202,8 +202,8 @@ fn four_lanes(column: &[u32], dst: &mut [u32])
 // Each element of the destination becomes the inverse of the column's: four at a time where the count is above 4 and a
 // multiple of 4, else one by one.
 pub fn invert(column: &[u32], dst: &mut [u32])
-    requires { ⌜ (Column qm31Units (length (now column) / 4) (now column)) × (length (now dst) ≡ length (now column)) ⌝ }
-    ensures { λ _. ⌜ now (dst .exit) ≡ inverted (qm31Units .layout) (qm31Units .inverse) (length (now (column .entry)) / 4) (now (column .entry)) (now (dst .entry)) ⌝ }
+    requires { ⌜ Inverting qm31Units (now column) (now dst) ⌝ }
+    ensures { λ _. ⌜ Inverted qm31Units (now (column .entry)) (now (dst .entry)) (now (dst .exit)) ⌝ }
 {
     let n = column.len() / WIDTH;
     if n <= 4 {

@@ -1,12 +1,15 @@
 -- Offsets stay within the domain, and their products within 64 bits.
 use Prim.Native.Nat.{ℕ, suc, _+_, _-_, _*_, _%_, _^_, _≤_, _<_}
 use mathlib.Core.Path.{_≡_, sym, _∙_, ap}
-use mathlib.Core.Bool.{Bool, true, false, not, _&&_, and-eq-true-iff}
+use mathlib.Core.Bool.{Bool, true, false, not, and-eq-true-iff}
 use native.Mathlib.Nat as N
 use native.Mathlib.Omega.{arith}
-use borrow.Author.Tests.{leb-true, ltb-true, not-false}
-use lib.Dec.{leb, ltb}
+use borrow.Author.Tests.{ltb-true, not-false}
+use lib.Dec.{ltb}
 use lib.Pow.{pow-pos, pow-mono}
+use Rattle.fields.specs.LogSize.{isLogSize}
+use Rattle.fields.specs.LogSizeLaws.{log-size-fits}
+use Rattle.orders.specs.Bounds.{Offset}
 use Rattle.orders.specs.BitReverse.{reverseBits, reversed-below}
 use Rattle.orders.specs.Orders.{bitReverseIndex, isSmallerDomain, moved, offsetElement, offsetIndex}
 use Rattle.orders.specs.OrderLaws.{index-from-one}
@@ -15,12 +18,13 @@ pub moved-below : (back : Bool) (size p s : ℕ) → 0 < size → moved back siz
 moved-below true size p s h = N.mod-lt (p + (size - s % size)) h
 moved-below false size p s h = N.mod-lt (p + s) h
 
--- what log sizes that pass are
-pub smaller : (domain eval : ℕ) (u : Bool) → u ≡ isSmallerDomain domain eval → not u ≡ false → (1 ≤ eval) × (eval ≤ 30) × (domain < eval)
-smaller domain eval u e h =
-    let both = and-eq-true-iff (leb 1 eval && leb eval 30) (ltb domain eval) .0 (sym e ∙ not-false u h) in
-    let range = and-eq-true-iff (leb 1 eval) (leb eval 30) .0 (both .0) in
-    (leb-true 1 eval (range .0), leb-true eval 30 (range .1), ltb-true domain eval (both .1))
+-- log sizes and steps that pass
+pub offset-fits : (domain eval steps : ℕ) (u : Bool) → u ≡ isSmallerDomain domain eval → not u ≡ false → steps ≤ 2 ^ 31
+    → Offset domain eval steps
+offset-fits domain eval steps u e h k =
+    let both = and-eq-true-iff (isLogSize eval) (ltb domain eval) .0 (sym e ∙ not-false u h) in
+    let range = log-size-fits eval (both .0) in
+    record { least = range .0; most = range .1; smaller = ltb-true domain eval (both .1); few = k }
 
 module _ (eval domain : ℕ) (least : 1 ≤ eval) (most : eval ≤ 30) where
   pub half-bounds : (0 < 2 ^ (eval - 1)) × (2 ^ (eval - 1) ≤ 2 ^ 31)

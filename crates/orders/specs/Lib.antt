@@ -2,5 +2,6 @@
 pub mod BitReverse
 pub mod Orders
 pub mod Swaps
+pub mod Bounds
 -- laws
 pub mod OrderLaws

@@ -5,6 +5,8 @@ use mathlib.Core.List.{List, [], _∷_, _++_}
 use lib.Dec.{leb, ltb, eqb}
 use lib.IntN.{ℤ, negsuc}
 use lib.ListN.{length, getD, drop}
+use Rattle.fields.specs.Check.{need, checked}
+use Rattle.fields.specs.LogSize.{isLogSize}
 use Rattle.fields.specs.Search.{first}
 use Rattle.fields.specs.Signed.{partsOf}
 use Rattle.fields.specs.declared.answer.U64Answer.{U64Answer}
@@ -21,9 +23,9 @@ unfoldable pub bitReverseIndex : ℕ → ℕ → ℕ
 bitReverseIndex i zero = i
 bitReverseIndex i (suc n) = reverseBits (suc n) i
 
--- number 6 above 64
+-- a log size of at most 64, else number 6
 unfoldable pub bitReverseIndexAnswer : ℕ → ℕ → U64Answer
-bitReverseIndexAnswer i n = cond (ltb 64 n) (Refused LogSize) (Value (bitReverseIndex i n))
+bitReverseIndexAnswer i n = checked (need (leb n 64) LogSize) Refused (Value (bitReverseIndex i n))
 
 -- The order map, from a position in a coset of so many points to the one in the circle domain:
 -- even k to k / 2, odd k to (2 size - k) / 2 rounded down.
@@ -34,9 +36,9 @@ toDomain size k = cond (eqb (k % 2) 0) (k / 2) ((2 * size - k) / 2)
 unfoldable pub toCoset : ℕ → ℕ → ℕ
 toCoset size i = cond (ltb i (size / 2)) (2 * i) (2 * (size - 1 - i) + 1)
 
--- number 6 above 31, number 4 for a position outside the coset
+-- a log size of at most 31, else number 6; a position within the coset, else number 4
 unfoldable pub cosetIndexAnswer : ℕ → ℕ → U64Answer
-cosetIndexAnswer k n = cond (ltb 31 n) (Refused LogSize) (cond (leb (2 ^ n) k) (Refused Index) (Value (toDomain (2 ^ n) k)))
+cosetIndexAnswer k n = checked (need (leb n 31) LogSize ++ need (ltb k (2 ^ n)) Index) Refused (Value (toDomain (2 ^ n) k))
 
 -- ---- columns
 
@@ -53,9 +55,9 @@ reordered f l = wordsAt f 0 (length l) l
 abbrev pub logSize : ℕ → ℕ
 logSize size = first (λ n. eqb (2 ^ n) size) 64
 
--- the in-place pair: number 8 unless the length is a power of two
+-- the in-place pair: the length is a power of two, else number 8
 unfoldable pub inPlaceAnswer : ℕ → WriteAnswer
-inPlaceAnswer size = cond (ltb (logSize size) 64) W.Written (W.Refused Length)
+inPlaceAnswer size = checked (need (ltb (logSize size) 64) Length) W.Refused W.Written
 
 -- what a call with this answer leaves of l
 unfoldable pub inPlaceExit : WriteAnswer → (ℕ → ℕ) → List ℕ → List ℕ
@@ -71,9 +73,9 @@ cosetBitReversed n k = reverseBits n (toDomain (2 ^ n) k)
 abbrev pub lengthsFit : ℕ → ℕ → Bool
 lengthsFit values dst = leb values dst && eqb (values % 2) 0
 
--- the copying pair: number 8 unless the lengths fit
+-- the copying pair: the lengths fit, else number 8
 unfoldable pub copyAnswer : ℕ → ℕ → WriteAnswer
-copyAnswer values dst = cond (lengthsFit values dst) W.Written (W.Refused Length)
+copyAnswer values dst = checked (need (lengthsFit values dst) Length) W.Refused W.Written
 
 -- what a call with this answer leaves in the destination: f is toCoset in `coset_order_to_circle_domain_order`, toDomain
 -- in `circle_domain_order_to_coset_order`
@@ -97,16 +99,15 @@ abbrev pub offsetIndex : ℕ → ℕ → ℕ → Bool → ℕ → ℕ
 offsetIndex i domain eval back steps =
     reverseBits eval (offsetElement back (2 ^ (eval - 1)) (reverseBits eval i) (steps * 2 ^ (eval - domain - 1)))
 
--- eval in 1..30 and domain below it
+-- eval is in 1..30, and domain is below it
 abbrev pub isSmallerDomain : ℕ → ℕ → Bool
-isSmallerDomain domain eval = leb 1 eval && leb eval 30 && ltb domain eval
+isSmallerDomain domain eval = isLogSize eval && ltb domain eval
 
--- number 6 for other log sizes, number 11 for an offset beyond 2^31 on either side
+-- such log sizes, else number 6; an offset within 2^31 on either side, else number 11
 unfoldable pub offsetAnswer : ℕ → ℕ → ℕ → ℤ → U64Answer
 offsetAnswer i domain eval offset =
-    cond (isSmallerDomain domain eval)
-    (cond (ltb (2 ^ 31) (partsOf offset .size)) (Refused Scalar) (Value (offsetIndex i domain eval (partsOf offset .negative) (partsOf offset .size))))
-    (Refused LogSize)
+    checked (need (isSmallerDomain domain eval) LogSize ++ need (leb (partsOf offset .size) (2 ^ 31)) Scalar) Refused
+    (Value (offsetIndex i domain eval (partsOf offset .negative) (partsOf offset .size)))
 
 -- negsuc 0 is -1
 unfoldable pub previousAnswer : ℕ → ℕ → ℕ → U64Answer

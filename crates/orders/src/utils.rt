@@ -5,6 +5,7 @@ ghost use Rattle.orders.specs.BitReverse.{reverseBits};
 ghost use Rattle.orders.specs.Orders.{bitReverseIndexAnswer, cosetIndexAnswer, offsetAnswer, previousAnswer, logSize, inPlaceAnswer, inPlaceExit, cosetBitReversed, lengthsFit, copyAnswer, copyExit, toDomain, toCoset};
 use fields::answer::U64Answer;
 use fields::answer::WriteAnswer;
+use fields::log_size::inner::two_to;
 use fields::refusal::Refusal;
 use fields::signed::parts;
 
@@ -75,7 +76,7 @@ pub fn coset_index_to_circle_domain_index(coset_index: u64, log_domain_size: u32
     if 31 < log_domain_size {
         return U64Answer::Refused(Refusal::LogSize);
     }
-    let size = inner::two_to(log_domain_size);
+    let size = two_to(log_domain_size);
     if size <= coset_index {
         return U64Answer::Refused(Refusal::Index);
     }

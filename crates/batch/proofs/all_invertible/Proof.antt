@@ -5,7 +5,7 @@ use lib.ListN.{length}
 use borrow.Author.Needs.{needs}
 use borrow.Author.Tests.{ltb-true}
 use lib.Bits.{bitOr}
-use Rattle.fields.proofs.Seen.{Seen, seen-none, seen-next}
+use Rattle.fields.specs.Seen.{Seen, seen-none, seen-next}
 use Rattle.batch.proofs.Invertible.{around, less-one, seen-written}
 use Rattle.batch.proofs.all_invertible.Statement.{statement}
 use Rattle.batch.proofs.all_invertible.Tie as tie

@@ -5,10 +5,8 @@ use native.Mathlib.Omega.{arith}
 use lib.Dec.{leb}
 use lib.ListN.{length}
 use borrow.Author.Needs.{needs}
-use Rattle.batch.specs.Batch.{columnOf, batchExit}
-use Rattle.batch.specs.Passes.{unitsOf}
-use Rattle.fields.specs.declared.answer.WriteAnswer.{WriteAnswer}
-use Rattle.batch.proofs.Batches.{column-of, same-width, same-inverted, width-positive, words-of-part, accepted}
+use Rattle.batch.proofs.Batches.{same-exit, refused-exit, width-positive}
+use Rattle.batch.proofs.Parts.{chunk-parts}
 use Rattle.batch.proofs.batch_inverse_chunked.Statement.{statement}
 use Rattle.batch.proofs.batch_inverse_chunked.Tie as tie
 
@@ -22,38 +20,39 @@ enum-told-2 : tie.Need-enum-told-2
 enum-told-2 c = search needs
 
 returns : tie.Need-returns
-unfolding batchExit
-returns c =
-    let column = c .before .before .before .before .before .args .column .now in
-    let dst = c .before .before .before .before .before .args .dst .now in
-    (c .before .before .check .ensures, ap (λ (a : WriteAnswer). batchExit (columnOf (c .before .before .before .before .before .args .field)) a column dst) (sym (c .enum-told2 .given .1) ∙ c .before .before .check .ensures))
+returns c = (c .before .before .check .ensures, refused-exit _ _ (sym (c .enum-told2 .given .1) ∙ c .before .before .check .ensures))
 
 width-requires : tie.Need-width-requires
 width-requires c κs = search needs
 
 part-words-requires : tie.Need-part-words-requires
-part-words-requires c κs = omega (arith, c .width .ensures, width-positive (c .before .before .before .before .before .before .args .field))
+part-words-requires c κs =
+    let entry = c .before .before .before .before .before .before in
+    omega (arith, c .width .ensures, width-positive (entry .args .field))
 
 invert-parts-requires : tie.Need-invert-parts-requires
 invert-parts-requires c κs =
-    let column = c .before .before .before .before .before .before .before .before .args .column .now in
-    let ok = accepted (columnOf (c .before .before .before .before .before .before .before .before .args .field)) (c .before .before .before .before .before .before .before .before .args .chunk) column (length (c .before .before .before .before .before .before .before .before .args .dst .now)) (sym (c .before .before .before .before .before .check .ensures) ∙ c .before .before .before .enum-told .given .1) in
-    let units = column-of (c .before .before .before .before .before .before .before .before .args .field) column (ok .0) (ok .3) in
-    let w = unitsOf (c .before .before .before .before .before .before .before .before .args .field) .layout .width in
-    let words = c .before .part-words .ensures ∙ ap (λ (k : ℕ). cond (leb (length column / k) (c .before .before .before .before .before .before .before .before .args .chunk)) (length column) (c .before .before .before .before .before .before .before .before .args .chunk * k)) (c .before .before .width .ensures ∙ sym (same-width (c .before .before .before .before .before .before .before .before .args .field))) in
-    let whole = words-of-part w (c .before .before .before .before .before .before .before .before .args .chunk) (length column) (c .before .part-words .result) (unitsOf (c .before .before .before .before .before .before .before .before .args .field) .laws .width-pos) (ok .2) (units .whole) words in
-    (units, ok .1, whole .0, whole .1)
+    let entry = c .before .before .before .before .before .before .before .before in
+    let field = entry .args .field in
+    let chunk = entry .args .chunk in
+    let column = entry .args .column .now in
+    chunk-parts field chunk
+    (sym (c .before .before .before .before .before .check .ensures) ∙ c .before .before .before .enum-told .given .1)
+    (c .before .part-words .ensures
+    ∙ ap (λ (w : ℕ). cond (leb (length column / w) chunk) (length column) (chunk * w)) (c .before .before .width .ensures))
 
 same-length : tie.Need-same-length
 same-length c = search needs
 
 returns-2 : tie.Need-returns-2
-unfolding batchExit
 returns-2 c =
-    let column = c .before .before .before .before .before .before .before .before .before .before .before .args .column .now in
-    let dst = c .before .before .before .before .before .before .before .before .before .before .before .args .dst .now in
-    let yes = sym (c .before .before .before .before .before .before .enum-told .given .1) ∙ c .before .before .before .before .before .before .before .before .check .ensures in
-    (yes, c .before .before .invert-parts .ensures ∙ same-inverted (c .before .before .before .before .before .before .before .before .before .before .before .args .field) column dst ∙ ap (λ (a : WriteAnswer). batchExit (columnOf (c .before .before .before .before .before .before .before .before .before .before .before .args .field)) a column dst) yes)
+    let entry = c .before .before .before .before .before .before .before .before .before .before .before in
+    let told = c .before .before .before .before .before .before in
+    let yes = sym (told .enum-told .given .1) ∙ told .before .before .check .ensures in
+    (yes, same-exit (entry .args .field) yes (c .before .before .invert-parts .ensures))
 
 pub batch-inverse-chunked-spec : {M : Type 1} → statement M
-batch-inverse-chunked-spec = tie.close (tie.spec check-requires enum-told enum-told-2 returns width-requires part-words-requires invert-parts-requires same-length returns-2)
+batch-inverse-chunked-spec =
+    tie.close
+    (tie.spec check-requires enum-told enum-told-2 returns width-requires part-words-requires invert-parts-requires same-length
+    returns-2)

@@ -5,8 +5,8 @@ use native.Mathlib.Omega.{arith}
 use lib.Dec.{leb, eqb}
 use lib.ListN.{length}
 use borrow.Author.Needs.{needs}
-use Rattle.batch.specs.Batch.{batchAnswer}
-use Rattle.fields.proofs.Answers.{answers}
+use Rattle.batch.specs.Batch.{batchAnswer, wordsAnswer}
+use Rattle.fields.specs.AnswerLaws.{answers}
 use Rattle.batch.proofs.Batches.{width-positive}
 use Rattle.batch.proofs.check.Statement.{statement}
 use Rattle.batch.proofs.check.Tie as tie
@@ -33,7 +33,7 @@ check-words-requires : tie.Need-check-words-requires
 check-words-requires c κs = search needs
 
 returns-3 : tie.Need-returns-3
-unfolding batchAnswer
+unfolding batchAnswer wordsAnswer
 returns-3 c =
     let e = c .before .before .before .lengths-fit .ensures ∙ ap (λ (w : ℕ). eqb (length (c .before .before .before .before .before .before .args .column .now) % w) 0 && eqb (c .before .before .before .before .before .before .args .dst % w) 0 && leb (length (c .before .before .before .before .before .before .args .column .now)) (c .before .before .before .before .before .before .args .dst)) (c .before .before .before .before .width .ensures) in
     search (answers, needs, c .before .if2 .left)

@@ -2,7 +2,7 @@ use Prim.Native.Nat.{_%_}
 use mathlib.Core.Path.{sym}
 use borrow.Author.Needs.{needs}
 use borrow.Author.Tests.{eq-eqb, ne-eqb}
-use Rattle.fields.proofs.Answers.{all-three, second-fails, first-fails}
+use Rattle.fields.specs.AnswerLaws.{all-three, second-fails, first-fails}
 use Rattle.batch.proofs.lengths_fit.Statement.{statement}
 use Rattle.batch.proofs.lengths_fit.Tie as tie
 

@@ -1,5 +1,5 @@
 use borrow.Author.Needs.{needs}
-use Rattle.fields.proofs.Answers.{answers}
+use Rattle.fields.specs.AnswerLaws.{answers}
 use Rattle.batch.proofs.part_end.Statement.{statement}
 use Rattle.batch.proofs.part_end.Tie as tie
 

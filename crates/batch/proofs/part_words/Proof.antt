@@ -1,6 +1,6 @@
 use native.Mathlib.Omega.{arith}
 use borrow.Author.Needs.{needs}
-use Rattle.fields.proofs.Answers.{answers}
+use Rattle.fields.specs.AnswerLaws.{answers}
 use Rattle.batch.proofs.Batches.{chunk-fits}
 use Rattle.batch.proofs.part_words.Statement.{statement}
 use Rattle.batch.proofs.part_words.Tie as tie

@@ -4,7 +4,7 @@ use native.Mathlib.Omega.{arith}
 use lib.ListN.{length}
 use borrow.Author.Needs.{needs}
 use Rattle.batch.specs.Batch.{wordsAnswer}
-use Rattle.fields.proofs.Answers.{answers}
+use Rattle.fields.specs.AnswerLaws.{answers}
 use Rattle.batch.proofs.Batches.{width-positive}
 use Rattle.batch.proofs.search_words.Statement.{statement}
 use Rattle.batch.proofs.search_words.Tie as tie

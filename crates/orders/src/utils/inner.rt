@@ -4,8 +4,12 @@ ghost use mathlib.Core.List.{_++_};
 ghost use Prim.Native.Nat.{_+_, _*_, _-_, _%_, _^_, _≤_, _<_};
 ghost use lib.ListN.{length, getD, set, drop};
 ghost use Rattle.orders.specs.BitReverse.{reverseBits};
-ghost use Rattle.orders.specs.Orders.{bitReverseIndex, toDomain, toCoset, reordered, logSize, cosetBitReversed, isSmallerDomain, moved, offsetElement, offsetIndex};
+ghost use Rattle.orders.specs.Orders.{bitReverseIndex, toDomain, toCoset, reordered, logSize, cosetBitReversed};
+ghost use Rattle.orders.specs.Orders.{isSmallerDomain, moved, offsetElement, offsetIndex};
+ghost use Rattle.orders.specs.Bounds.{Offset, OnCircle, OnHalves, RowRoom, BlockRoom, HasBlocks, PairRoom, CopyRoom};
 ghost use Rattle.orders.specs.Swaps.{swapped, swappedIfBefore, rowSwapped, blockSwapped, pairSwapped};
+use fields::log_size::inner::two_to;
+use fields::log_size::is_log_size;
 
 // All 64 bits in reverse: neighbouring bits change places, then neighbouring pairs, and so on up to the halves.
 pub fn reverse_bits(x: u64) -> u64
@@ -27,13 +31,6 @@ pub fn bit_reverse_index(i: u64, log_size: u32) -> u64
         return i;
     }
     reverse_bits(i) >> (64 - log_size)
-}
-
-pub fn two_to(n: u32) -> u64
-    requires { ⌜ n < 64 ⌝ }
-    ensures { λ r. ⌜ r ≡ 2 ^ n ⌝ }
-{
-    1u64 << n
 }
 
 // The n of 2^n = size, 64 where there is none.
@@ -71,7 +68,7 @@ fn swap_if_before(v: &mut [u32], t: usize, u: usize, i: usize, j: usize)
 
 // Four words from `from` on and their partners, a quarter of the column apart.
 fn swap_row(v: &mut [u32], quarter: usize, t: usize, u: usize, from: usize, to: usize)
-    requires { ⌜ (quarter * 4 ≡ length (now v)) × (from + 3 < length (now v)) × (to < quarter) × (t + 3 < length (now v)) × (u + 12 < length (now v)) ⌝ }
+    requires { ⌜ RowRoom (length (now v)) quarter t u from to ⌝ }
     ensures { λ _. ⌜ now (v .exit) ≡ rowSwapped quarter t u from to (now (v .entry)) ⌝ }
 {
     swap_if_before(v, t, u, from, to);
@@ -83,7 +80,7 @@ fn swap_row(v: &mut [u32], quarter: usize, t: usize, u: usize, from: usize, to: 
 // Words 4x to 4x + 3 of each quarter, and those of y, the reverse of x: rows that lie far apart, so that a row's cache
 // line is used four times while it is there.
 fn swap_block(v: &mut [u32], quarter: usize, x: usize, y: usize)
-    requires { ⌜ (quarter * 4 ≡ length (now v)) × (4 * x + 3 < quarter) × (4 * y + 3 < quarter) ⌝ }
+    requires { ⌜ BlockRoom (length (now v)) quarter x y ⌝ }
     ensures { λ _. ⌜ now (v .exit) ≡ blockSwapped quarter x y (now (v .entry)) ⌝ }
 {
     swap_row(v, quarter, 16 * x, 16 * y, 4 * x, 4 * y);
@@ -127,7 +124,7 @@ fn bit_reverse_short(v: &mut [u32], log_size: u32)
 }
 
 fn bit_reverse_blocks(v: &mut [u32], log_size: u32)
-    requires { ⌜ (4 ≤ «log_size») × («log_size» < 64) × (length (now v) ≡ 2 ^ «log_size») ⌝ }
+    requires { ⌜ HasBlocks «log_size» (length (now v)) ⌝ }
     ensures { λ _. ⌜ now (v .exit) ≡ reordered (reverseBits «log_size») (now (v .entry)) ⌝ }
 {
     let quarter = v.len() / 4;
@@ -153,7 +150,7 @@ pub fn bit_reverse(v: &mut [u32], log_size: u32)
 
 // An even word and the odd one after it.
 fn swap_pair(v: &mut [u32], last: usize, x: usize, y: usize)
-    requires { ⌜ (last + 1 ≡ length (now v)) × (2 * x < last) × (2 * y < last) ⌝ }
+    requires { ⌜ PairRoom (length (now v)) last x y ⌝ }
     ensures { λ _. ⌜ now (v .exit) ≡ pairSwapped last x y (now (v .entry)) ⌝ }
 {
     let even = 2 * x;
@@ -201,8 +198,9 @@ fn copy_pair(
     to_first: usize,
     to_second: usize,
 )
-    requires { ⌜ (first < length (now values)) × (second < length (now values)) × («to_first» < length (now dst)) × («to_second» < length (now dst)) ⌝ }
-    ensures { λ _. ⌜ now (dst .exit) ≡ set (set (now (dst .entry)) «to_first» (getD (now (values .entry)) first 0)) «to_second» (getD (now (values .entry)) second 0) ⌝ }
+    requires { ⌜ CopyRoom (length (now values)) (length (now dst)) first second «to_first» «to_second» ⌝ }
+    ensures { λ _. ⌜ now (dst .exit)
+        ≡ set (set (now (dst .entry)) «to_first» (getD (now (values .entry)) first 0)) «to_second» (getD (now (values .entry)) second 0) ⌝ }
 {
     dst[to_first] = values[first];
     dst[to_second] = values[second];
@@ -210,7 +208,9 @@ fn copy_pair(
 
 pub fn circle_domain_order_to_coset_order(values: &[u32], dst: &mut [u32])
     requires { ⌜ (length (now values) ≤ length (now dst)) × (length (now values) % 2 ≡ 0) ⌝ }
-    ensures { λ _. ⌜ now (dst .exit) ≡ reordered (toDomain (length (now (values .entry)))) (now (values .entry)) ++ drop (length (now (values .entry))) (now (dst .entry)) ⌝ }
+    ensures { λ _. ⌜ now (dst .exit)
+        ≡ reordered (toDomain (length (now (values .entry)))) (now (values .entry))
+        ++ drop (length (now (values .entry))) (now (dst .entry)) ⌝ }
 {
     let half = values.len() / 2;
     let mut i: usize = 0;
@@ -223,7 +223,9 @@ pub fn circle_domain_order_to_coset_order(values: &[u32], dst: &mut [u32])
 
 pub fn coset_order_to_circle_domain_order(values: &[u32], dst: &mut [u32])
     requires { ⌜ (length (now values) ≤ length (now dst)) × (length (now values) % 2 ≡ 0) ⌝ }
-    ensures { λ _. ⌜ now (dst .exit) ≡ reordered (toCoset (length (now (values .entry)))) (now (values .entry)) ++ drop (length (now (values .entry))) (now (dst .entry)) ⌝ }
+    ensures { λ _. ⌜ now (dst .exit)
+        ≡ reordered (toCoset (length (now (values .entry)))) (now (values .entry))
+        ++ drop (length (now (values .entry))) (now (dst .entry)) ⌝ }
 {
     let half = values.len() / 2;
     let mut i: usize = 0;
@@ -238,10 +240,7 @@ pub fn coset_order_to_circle_domain_order(values: &[u32], dst: &mut [u32])
 pub fn is_smaller_domain(domain: u32, eval: u32) -> bool
     ensures { λ r. ⌜ r ≡ isSmallerDomain domain eval ⌝ }
 {
-    if eval < 1 {
-        return false;
-    }
-    if 30 < eval {
+    if !is_log_size(eval) {
         return false;
     }
     domain < eval
@@ -249,7 +248,7 @@ pub fn is_smaller_domain(domain: u32, eval: u32) -> bool
 
 // s places from p round a circle of so many places.
 fn moved(back: bool, size: u64, p: u64, s: u64) -> u64
-    requires { ⌜ (0 < size) × (p < size) × (size ≤ 2 ^ 31) × (s < 2 ^ 62) ⌝ }
+    requires { ⌜ OnCircle size p s ⌝ }
     ensures { λ r. ⌜ r ≡ moved back size p s ⌝ }
 {
     if back {
@@ -259,7 +258,7 @@ fn moved(back: bool, size: u64, p: u64, s: u64) -> u64
 }
 
 fn offset_element(back: bool, half: u64, p: u64, s: u64) -> u64
-    requires { ⌜ (0 < half) × (p < 2 * half) × (half ≤ 2 ^ 31) × (s < 2 ^ 62) ⌝ }
+    requires { ⌜ OnHalves half p s ⌝ }
     ensures { λ r. ⌜ r ≡ offsetElement back half p s ⌝ }
 {
     if p < half {
@@ -275,7 +274,7 @@ pub fn offset_bit_reversed_circle_domain_index(
     back: bool,
     steps: u64,
 ) -> u64
-    requires { ⌜ (1 ≤ «eval_log_size») × («eval_log_size» ≤ 30) × («domain_log_size» < «eval_log_size») × (steps ≤ 2 ^ 31) ⌝ }
+    requires { ⌜ Offset «domain_log_size» «eval_log_size» steps ⌝ }
     ensures { λ r. ⌜ r ≡ offsetIndex i «domain_log_size» «eval_log_size» back steps ⌝ }
 {
     let half = two_to(eval_log_size - 1);

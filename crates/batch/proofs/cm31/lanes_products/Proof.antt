@@ -1,67 +1,97 @@
-use Prim.Native.Nat.{_-_, _/_, _<_}
-use mathlib.Core.Path.{_≡_, refl, sym, _∙_, ap}
+use Prim.Native.Nat.{_-_}
+use mathlib.Core.Path.{refl, _∙_, ap}
 use native.Mathlib.Omega.{arith}
-use lib.ListN.{length}
+use borrow.Author.Needs.{needs}
 use Rattle.batch.specs.Passes.{cm31Units, laneUnits}
 use Rattle.batch.specs.Lanes.{cm31Lanes}
-use Rattle.batch.proofs.Montgomery.{Up, up-start, up-unit, up-next, up-end, same-unit}
+use Rattle.batch.proofs.Montgomery.{Up, up-start, up-unit, up-next, up-end, first-unit, element-unit}
 use Rattle.batch.proofs.Units.{cm31-ones}
 use Rattle.batch.proofs.cm31.lanes_products.Statement.{statement}
 use Rattle.batch.proofs.cm31.lanes_products.Tie as tie
 
 abbrev Inv-loop : tie.InvT-loop
-Inv-loop column dst₀ n whole₀ k₀ dst whole k = (n ≡ length column / 8) × Up (laneUnits cm31Units) column dst (length column / 8) k (cm31Lanes whole)
+Inv-loop column dst₀ n whole₀ k₀ dst whole k = Up (laneUnits cm31Units) column dst n k (cm31Lanes whole)
 
 abbrev μ-loop : tie.MeasureT-loop
 μ-loop column dst₀ n whole₀ k₀ dst whole k = n - k
 
 lanes-load-requires : tie.Need-lanes-load-requires Inv-loop μ-loop
-lanes-load-requires c κs = omega (arith, c .before .before .pre .0 .whole)
+lanes-load-requires c κs = omega arith
 
 lanes-mul-requires : tie.Need-lanes-mul-requires Inv-loop μ-loop
-lanes-mul-requires c κs = (cm31-ones .0, same-unit (laneUnits cm31Units) _ _ (c .lanes-load .ensures) (c .before .before .before .pre .0 .units 0 (omega (arith, c .before .before .before .pre .0 .whole))))
+lanes-mul-requires c κs =
+    let entry = c .before .before .before in
+    record { left = cm31-ones .0; right = first-unit (laneUnits cm31Units) (entry .pre) (c .lanes-load .ensures) }
 
 lanes-store-requires : tie.Need-lanes-store-requires Inv-loop μ-loop
-lanes-store-requires c κs = omega (arith, c .before .before .before .before .before .pre .0 .whole)
+lanes-store-requires c κs = omega arith
 
 loop-holds : tie.Need-loop-holds Inv-loop μ-loop
-loop-holds c = (refl, up-start (laneUnits cm31Units) _ _ (c .before .before .before .before .before .before .before .before .pre .0) (c .before .before .before .before .before .before .before .before .args .dst .now) _ _ (omega (arith, c .before .before .before .before .before .before .before .before .pre .0 .whole)) (c .before .before .before .before .before .before .before .before .pre .1) (c .before .before .before .before .lanes-mul .ensures ∙ ap (laneUnits cm31Units .mul _) (c .before .before .before .before .before .lanes-load .ensures) ∙ cm31-ones .1 _ (c .before .before .before .before .before .before .before .before .pre .0 .units 0 (omega (arith, c .before .before .before .before .before .before .before .before .pre .0 .whole)))) (c .before .before .lanes-store .ensures))
+loop-holds c =
+    let entry = c .before .before .before .before .before .before .before .before in
+    up-start (laneUnits cm31Units) (entry .pre)
+    (c .before .before .before .before .lanes-mul .ensures
+    ∙ ap (laneUnits cm31Units .mul _) (c .before .before .before .before .before .lanes-load .ensures)
+    ∙ cm31-ones .1 _ (first-unit (laneUnits cm31Units) (entry .pre) refl))
+    (c .before .before .lanes-store .ensures)
 
 mul-lanes-load : tie.Need-mul-lanes-load Inv-loop μ-loop
-mul-lanes-load c = omega (arith, c .before .before .before .before .before .before .before .before .before .before .pre .0 .whole, c .before .before .before .before .before .before .before .before .before .before .good)
+mul-lanes-load c =
+    let entry = c .before .before .before .before .before .before .before .before .before .before in
+    omega (arith, entry .pre .elements .whole, entry .good)
 
 lanes-load-requires-2 : tie.Need-lanes-load-requires-2 Inv-loop μ-loop
-lanes-load-requires-2 c κs = omega (arith, c .before .before .before .before .before .before .before .before .before .before .pre .0 .whole)
+lanes-load-requires-2 c κs = omega arith
 
 lanes-mul-requires-2 : tie.Need-lanes-mul-requires-2 Inv-loop μ-loop
 lanes-mul-requires-2 c κs =
-    let at = c .before .before .loop in
-    let column = c .before .before .before .before .before .before .before .before .before .before .before .pre .0 in
-    (up-unit (laneUnits cm31Units) _ _ column _ _ _ (at .inv .1), same-unit (laneUnits cm31Units) _ _ (c .lanes-load2 .ensures) (column .units (at .k) (omega arith)))
+    let head = c .before .before in
+    let entry = head .before .before .before .before .before .before .before .before .before in
+    let at = head .loop in
+    record {
+      left = up-unit (laneUnits cm31Units) (entry .pre) (at .inv);
+      right = element-unit (laneUnits cm31Units) (entry .pre .elements) (at .k) (omega arith) (c .lanes-load2 .ensures);
+    }
 
 mul-lanes-store : tie.Need-mul-lanes-store Inv-loop μ-loop
-mul-lanes-store c = omega (arith, c .before .before .before .before .before .before .before .before .before .before .before .before .before .pre .0 .whole, c .before .before .before .before .before .before .before .before .before .before .before .before .before .good, c .before .before .before .loop-test .taken, c .before .before .before .before .loop .inv .0)
+mul-lanes-store c =
+    let test = c .before .before .before in
+    let head = test .before in
+    let entry = head .before .before .before .before .before .before .before .before .before in
+    omega (arith, entry .pre .elements .whole, entry .good, test .loop-test .taken, head .loop .inv .count)
 
 lanes-store-requires-2 : tie.Need-lanes-store-requires-2 Inv-loop μ-loop
-lanes-store-requires-2 c κs = omega (arith, c .before .before .before .before .before .before .before .before .before .before .before .before .before .pre .0 .whole, c .before .before .before .before .loop .inv .1 .long)
+lanes-store-requires-2 c κs = omega arith
 
 add-k : tie.Need-add-k Inv-loop μ-loop
-add-k c = omega (arith, c .before .before .before .before .before .before .before .before .before .before .before .before .before .before .before .before .pre .0 .whole, c .before .before .before .before .before .before .before .before .before .before .before .before .before .before .before .before .good, c .before .before .before .before .before .before .loop-test .taken, c .before .before .before .before .before .before .before .loop .inv .0)
+add-k c =
+    let test = c .before .before .before .before .before .before in
+    let head = test .before in
+    let entry = head .before .before .before .before .before .before .before .before .before in
+    omega (arith, entry .pre .elements .whole, entry .good, test .loop-test .taken, head .loop .inv .count)
 
 loop-less : tie.Need-loop-less Inv-loop μ-loop
-loop-less c = omega (arith, c .before .before .before .before .before .before .loop-test .taken)
+loop-less c = omega arith
 
 loop-again : tie.Need-loop-again Inv-loop μ-loop
 loop-again c =
-    let at = c .before .before .before .before .before .before .before .loop in
-    let below : at .k < length (c .before .before .before .before .before .before .before .before .before .before .before .before .before .before .before .before .args .column .now) / 8 = omega (arith, c .before .before .before .before .before .before .loop-test .taken, at .inv .0) in
-    (at .inv .0, up-next (laneUnits cm31Units) _ _ (c .before .before .before .before .before .before .before .before .before .before .before .before .before .before .before .before .pre .0) (at .dst) _ (at .k) _ _ _ (at .inv .1) below (c .before .before .before .before .before .lanes-load2 .ensures) (c .before .before .before .before .lanes-mul2 .ensures) (c .before .before .lanes-store2 .ensures))
+    let test = c .before .before .before .before .before .before in
+    let head = test .before in
+    let entry = head .before .before .before .before .before .before .before .before .before in
+    up-next (laneUnits cm31Units) (entry .pre) (head .loop .inv) (test .loop-test .taken)
+    (c .before .before .before .before .before .lanes-load2 .ensures) (c .before .before .before .before .lanes-mul2 .ensures)
+    (c .before .before .lanes-store2 .ensures)
 
 same-length : tie.Need-same-length Inv-loop μ-loop
-same-length c = c .before .loop .inv .1 .long ∙ sym (c .before .before .before .before .before .before .before .before .before .before .pre .1)
+same-length c = search needs
 
 returns : tie.Need-returns Inv-loop μ-loop
-returns c = up-end (laneUnits cm31Units) _ _ (c .before .before .before .before .before .before .before .before .before .before .pre .0) _ _ _ (c .before .loop .inv .1) (omega (arith, c .loop-test .left, c .before .loop .inv .0))
+returns c =
+    let entry = c .before .before .before .before .before .before .before .before .before .before in
+    up-end (laneUnits cm31Units) (entry .pre) (c .before .loop .inv) (omega (arith, c .loop-test .left))
 
 pub lanes-products-spec : {M : Type 1} → statement M
-lanes-products-spec = tie.close (tie.spec Inv-loop μ-loop lanes-load-requires lanes-mul-requires lanes-store-requires loop-holds mul-lanes-load lanes-load-requires-2 lanes-mul-requires-2 mul-lanes-store lanes-store-requires-2 add-k loop-less loop-again same-length returns)
+lanes-products-spec =
+    tie.close
+    (tie.spec Inv-loop μ-loop lanes-load-requires lanes-mul-requires lanes-store-requires loop-holds mul-lanes-load
+    lanes-load-requires-2 lanes-mul-requires-2 mul-lanes-store lanes-store-requires-2 add-k loop-less loop-again same-length returns)

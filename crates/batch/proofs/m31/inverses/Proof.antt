@@ -1,73 +1,94 @@
-use Prim.Native.Nat.{_/_}
-use mathlib.Core.Path.{sym, _∙_}
 use native.Mathlib.Omega.{arith}
-use lib.ListN.{length}
 use borrow.Author.Needs.{needs}
 use Rattle.batch.specs.Passes.{m31Units}
-use Rattle.batch.proofs.Montgomery.{Down, down-start, down-unit, last-unit, down-next, down-end, same-unit}
+use Rattle.batch.proofs.Montgomery.{Down, down-start, down-unit, last-unit, down-next, down-end, element-unit}
 use Rattle.batch.proofs.m31.inverses.Statement.{statement}
 use Rattle.batch.proofs.m31.inverses.Tie as tie
 
 abbrev Inv-loop : tie.InvT-loop
-Inv-loop column dst₀ inverse rest₀ k₀ dst rest k = Down m31Units column dst (length column / 1) k rest
+Inv-loop column dst₀ inverse rest₀ k₀ dst rest k = Down m31Units column dst k rest
 
 abbrev μ-loop : tie.MeasureT-loop
 μ-loop column dst₀ inverse rest₀ k₀ dst rest k = k
 
 sub-k : tie.Need-sub-k Inv-loop μ-loop
-sub-k c = omega (arith, c .before .before .pre .0 .whole)
+sub-k c = omega arith
 
 loop-holds : tie.Need-loop-holds Inv-loop μ-loop
-loop-holds c = down-start m31Units _ _ (c .before .before .pre .0) _ _ (omega (arith, c .before .before .pre .0 .whole)) (c .before .before .pre .1) (c .before .before .pre .3) (c .before .before .pre .4)
+loop-holds c = down-start m31Units (c .before .before .pre)
 
 mul-load : tie.Need-mul-load Inv-loop μ-loop
-mul-load c = omega (arith, c .before .before .before .before .pre .0 .whole, c .before .before .before .before .good, c .before .loop .inv .low)
+mul-load c = omega arith
 
 load-requires : tie.Need-load-requires Inv-loop μ-loop
-load-requires c κs = omega (arith, c .before .before .before .before .pre .0 .whole, c .before .loop .inv .low)
+load-requires c κs = omega arith
 
 sub-load : tie.Need-sub-load Inv-loop μ-loop
 sub-load c = search needs
 
 mul-load-2 : tie.Need-mul-load-2 Inv-loop μ-loop
-mul-load-2 c = omega (arith, c .before .before .before .before .before .before .pre .0 .whole, c .before .before .before .before .before .before .good, c .before .before .before .loop .inv .low)
+mul-load-2 c = omega arith
 
 load-requires-2 : tie.Need-load-requires-2 Inv-loop μ-loop
-load-requires-2 c κs = omega (arith, c .before .before .before .before .before .before .pre .0 .whole, c .before .before .before .loop .inv .long, c .before .before .before .loop .inv .low)
+load-requires-2 c κs = omega arith
 
 mul-store : tie.Need-mul-store Inv-loop μ-loop
-mul-store c = omega (arith, c .before .before .before .before .before .before .before .before .pre .0 .whole, c .before .before .before .before .before .before .before .before .good, c .before .before .before .before .before .loop .inv .low)
+mul-store c = omega arith
 
 mul-requires : tie.Need-mul-requires Inv-loop μ-loop
-mul-requires c κs = (last-unit m31Units _ _ (c .before .before .before .before .before .before .before .before .pre .0) _ _ _ _ (c .before .before .before .before .before .loop .inv) (c .before .before .before .before .loop-test .taken) (c .before .load2 .ensures) .0, down-unit m31Units _ _ (c .before .before .before .before .before .before .before .before .pre .0) _ _ _ (c .before .before .before .before .before .loop .inv) .0)
+mul-requires c κs =
+    let test = c .before .before .before .before in
+    let head = test .before in
+    let entry = head .before .before .before in
+    let inv = head .loop .inv in (
+      last-unit m31Units (entry .pre) inv (test .loop-test .taken) (c .before .load2 .ensures) .0,
+      down-unit m31Units (entry .pre) inv .0,
+    )
 
 store-requires : tie.Need-store-requires Inv-loop μ-loop
-store-requires c κs = omega (arith, c .before .before .before .before .before .before .before .before .before .pre .0 .whole, c .before .before .before .before .before .before .loop .inv .long, c .before .before .before .before .before .before .loop .inv .low)
+store-requires c κs = omega arith
 
 mul-requires-2 : tie.Need-mul-requires-2 Inv-loop μ-loop
 mul-requires-2 c κs =
-    let at = c .before .before .before .before .before .before .before .before .before .loop in
-    (down-unit m31Units _ _ (c .before .before .before .before .before .before .before .before .before .before .before .before .pre .0) _ _ _ (at .inv) .0, same-unit m31Units _ _ (c .before .before .before .before .before .before .before .load .ensures) (c .before .before .before .before .before .before .before .before .before .before .before .before .pre .0 .units (at .k) (at .inv .low)) .0)
+    let head = c .before .before .before .before .before .before .before .before .before in
+    let entry = head .before .before .before in
+    let at = head .loop in (
+      down-unit m31Units (entry .pre) (at .inv) .0,
+      element-unit m31Units (entry .pre .elements) (at .k) (at .inv .low)
+          (c .before .before .before .before .before .before .before .load .ensures) .0,
+    )
 
 sub-k-2 : tie.Need-sub-k-2 Inv-loop μ-loop
-sub-k-2 c = omega (arith, c .before .before .before .before .before .before .before .before .before .loop-test .taken)
+sub-k-2 c = omega arith
 
 loop-less : tie.Need-loop-less Inv-loop μ-loop
-loop-less c = omega (arith, c .before .before .before .before .before .before .before .before .before .loop-test .taken)
+loop-less c = omega arith
 
 loop-again : tie.Need-loop-again Inv-loop μ-loop
 loop-again c =
-    down-next m31Units _ _ (c .before .before .before .before .before .before .before .before .before .before .before .before .before .pre .0) (c .before .before .before .before .before .before .before .before .before .before .loop .dst) _ (c .before .before .before .before .before .before .before .before .before .before .loop .k) _ _ _ _ _ (c .before .before .before .before .before .before .before .before .before .before .loop .inv) (c .before .before .before .before .before .before .before .before .before .loop-test .taken)
-    (c .before .before .before .before .before .before .before .before .load .ensures) (c .before .before .before .before .before .before .load2 .ensures) (c .before .before .before .before .mul .ensures) (c .mul2 .ensures) (c .before .before .before .store .ensures)
+    let test = c .before .before .before .before .before .before .before .before .before in
+    let head = test .before in
+    let entry = head .before .before .before in
+    down-next m31Units (entry .pre) (head .loop .inv)
+    (test .loop-test .taken) (c .before .before .before .before .before .before .before .before .load .ensures)
+    (c .before .before .before .before .before .before .load2 .ensures)
+    (c .before .before .before .before .mul .ensures) (c .mul2 .ensures) (c .before .before .before .store .ensures)
 
 store-requires-2 : tie.Need-store-requires-2 Inv-loop μ-loop
-store-requires-2 c κs = omega (arith, c .before .before .before .before .before .pre .0 .whole, c .before .before .loop .inv .long, c .before .before .loop .inv .low)
+store-requires-2 c κs = omega arith
 
 same-length : tie.Need-same-length Inv-loop μ-loop
-same-length c = down-end m31Units _ _ (c .before .before .before .before .before .before .before .before .pre .0) (c .before .before .before .before .before .loop .dst) _ (c .before .before .before .before .before .loop .k) _ (c .before .before .before .before .before .loop .inv) (omega (arith, c .before .before .before .before .loop-test .left)) (c .before .before .store2 .ensures) .0 ∙ sym (c .before .before .before .before .before .before .before .before .pre .1)
+same-length c = search needs
 
 returns : tie.Need-returns Inv-loop μ-loop
-returns c = down-end m31Units _ _ (c .before .before .before .before .before .before .before .before .pre .0) (c .before .before .before .before .before .loop .dst) _ (c .before .before .before .before .before .loop .k) _ (c .before .before .before .before .before .loop .inv) (omega (arith, c .before .before .before .before .loop-test .left)) (c .before .before .store2 .ensures) .1
+returns c =
+    let test = c .before .before .before .before in
+    let head = test .before in
+    let entry = head .before .before .before in
+    down-end m31Units (entry .pre) (head .loop .inv) (c .before .before .store2 .ensures) (omega (arith, test .loop-test .left))
 
 pub inverses-spec : {M : Type 1} → statement M
-inverses-spec = tie.close (tie.spec Inv-loop μ-loop sub-k loop-holds mul-load load-requires sub-load mul-load-2 load-requires-2 mul-store mul-requires store-requires mul-requires-2 sub-k-2 loop-less loop-again store-requires-2 same-length returns)
+inverses-spec =
+    tie.close
+    (tie.spec Inv-loop μ-loop sub-k loop-holds mul-load load-requires sub-load mul-load-2 load-requires-2 mul-store mul-requires
+    store-requires mul-requires-2 sub-k-2 loop-less loop-again store-requires-2 same-length returns)

@@ -1,8 +1,7 @@
-use mathlib.Core.Path.{_∙_, ap}
 use borrow.Author.Needs.{needs}
 use Rattle.batch.specs.Passes.{m31Units}
-use Rattle.fields.proofs.Pairs.{four}
-use Rattle.batch.proofs.Montgomery.{fourth, third, second, first}
+use Rattle.batch.specs.Lanes.{m31Lanes}
+use Rattle.batch.proofs.Montgomery.{four-inverses}
 use Rattle.batch.proofs.m31.lanes_inverse.Statement.{statement}
 use Rattle.batch.proofs.m31.lanes_inverse.Tie as tie
 
@@ -38,20 +37,18 @@ mul-requires-9 c κs = search needs
 
 returns : tie.Need-returns
 returns c =
-    let pre = c .before .before .before .before .before .before .before .before .before .before .pre in
-    four
-    (c .mul9 .ensures ∙ first m31Units (c .before .before .before .before .before .before .before .before .before .before .args .a .0) (c .before .before .before .before .before .before .before .before .before .before .args .a .1) (c .before .before .before .before .before .before .before .before .before .before .args .a .2) (c .before .before .before .before .before .before .before .before .before .before .args .a .3) (pre .0) (pre .1)
-    (c .before .before .before .before .before .before .before .before .before .mul .ensures) (c .before .before .before .before .before .before .before .before .mul2 .ensures) (c .before .before .before .before .before .before .pow2147483645 .ensures ∙ ap (m31Units .inverse) (c .before .before .before .before .before .before .before .mul3 .ensures))
-    (c .before .before .before .before .mul5 .ensures) (c .before .before .mul7 .ensures))
-    (c .before .mul8 .ensures ∙ second m31Units (c .before .before .before .before .before .before .before .before .before .before .args .a .0) (c .before .before .before .before .before .before .before .before .before .before .args .a .1) (c .before .before .before .before .before .before .before .before .before .before .args .a .2) (c .before .before .before .before .before .before .before .before .before .before .args .a .3) (pre .0) (pre .1)
-    (c .before .before .before .before .before .before .before .before .before .mul .ensures) (c .before .before .before .before .before .before .before .before .mul2 .ensures) (c .before .before .before .before .before .before .pow2147483645 .ensures ∙ ap (m31Units .inverse) (c .before .before .before .before .before .before .before .mul3 .ensures))
-    (c .before .before .before .before .mul5 .ensures) (c .before .before .mul7 .ensures))
-    (c .before .before .before .mul6 .ensures ∙ third m31Units (c .before .before .before .before .before .before .before .before .before .before .args .a .0) (c .before .before .before .before .before .before .before .before .before .before .args .a .1) (c .before .before .before .before .before .before .before .before .before .before .args .a .2) (c .before .before .before .before .before .before .before .before .before .before .args .a .3) (pre .0) (pre .1)
-    (c .before .before .before .before .before .before .before .before .before .mul .ensures) (c .before .before .before .before .before .before .before .before .mul2 .ensures) (c .before .before .before .before .before .before .pow2147483645 .ensures ∙ ap (m31Units .inverse) (c .before .before .before .before .before .before .before .mul3 .ensures))
-    (c .before .before .before .before .mul5 .ensures) (c .before .before .mul7 .ensures))
-    (c .before .before .before .before .before .mul4 .ensures ∙ fourth m31Units (c .before .before .before .before .before .before .before .before .before .before .args .a .0) (c .before .before .before .before .before .before .before .before .before .before .args .a .1) (c .before .before .before .before .before .before .before .before .before .before .args .a .2) (c .before .before .before .before .before .before .before .before .before .before .args .a .3) (pre .0) (pre .1)
-    (c .before .before .before .before .before .before .before .before .before .mul .ensures) (c .before .before .before .before .before .before .before .before .mul2 .ensures) (c .before .before .before .before .before .before .pow2147483645 .ensures ∙ ap (m31Units .inverse) (c .before .before .before .before .before .before .before .mul3 .ensures))
-    (c .before .before .before .before .mul5 .ensures) (c .before .before .mul7 .ensures))
+    let entry = c .before .before .before .before .before .before .before .before .before .before in
+    four-inverses m31Units (m31Lanes (entry .args .a)) (entry .pre)
+    (c .before .before .before .before .before .before .before .before .before .mul .ensures)
+    (c .before .before .before .before .before .before .before .before .mul2 .ensures)
+    (c .before .before .before .before .before .before .before .mul3 .ensures)
+    (c .before .before .before .before .before .before .pow2147483645 .ensures)
+    (c .before .before .before .before .mul5 .ensures) (c .before .before .mul7 .ensures)
+    (c .before .before .before .before .before .mul4 .ensures)
+    (c .before .before .before .mul6 .ensures) (c .before .mul8 .ensures) (c .mul9 .ensures)
 
 pub lanes-inverse-spec : {M : Type 1} → statement M
-lanes-inverse-spec = tie.close (tie.spec mul-requires mul-requires-2 mul-requires-3 pow2147483645-requires mul-requires-4 mul-requires-5 mul-requires-6 mul-requires-7 mul-requires-8 mul-requires-9 returns)
+lanes-inverse-spec =
+    tie.close
+    (tie.spec mul-requires mul-requires-2 mul-requires-3 pow2147483645-requires mul-requires-4 mul-requires-5 mul-requires-6
+    mul-requires-7 mul-requires-8 mul-requires-9 returns)

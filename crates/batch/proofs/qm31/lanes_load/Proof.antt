@@ -1,5 +1,5 @@
 use borrow.Author.Needs.{needs}
-use Rattle.fields.proofs.Pairs.{four}
+use Rattle.fields.specs.PairLaws.{four}
 use Rattle.batch.proofs.qm31.lanes_load.Statement.{statement}
 use Rattle.batch.proofs.qm31.lanes_load.Tie as tie
 

@@ -1,5 +1,5 @@
 use borrow.Author.Needs.{needs}
-use Rattle.fields.proofs.Answers.{answers}
+use Rattle.fields.specs.AnswerLaws.{answers}
 use Rattle.orders.specs.Orders.{bitReverseIndexAnswer}
 use Rattle.orders.proofs.utils.bit_reverse_index.Statement.{statement}
 use Rattle.orders.proofs.utils.bit_reverse_index.Tie as tie

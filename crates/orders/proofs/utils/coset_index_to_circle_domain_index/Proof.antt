@@ -1,5 +1,5 @@
 use borrow.Author.Needs.{needs}
-use Rattle.fields.proofs.Answers.{answers}
+use Rattle.fields.specs.AnswerLaws.{answers}
 use Prim.Native.Nat.{_≤_, _<_, _^_, ℕ}
 use native.Mathlib.Omega.{arith}
 use lib.Pow.{pow-mono}

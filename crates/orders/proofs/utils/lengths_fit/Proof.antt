@@ -1,6 +1,6 @@
 use borrow.Author.Needs.{needs}
 use borrow.Author.Tests.{le-leb, lt-leb}
-use Rattle.fields.proofs.Answers.{first-fails, first-holds}
+use Rattle.fields.specs.AnswerLaws.{first-fails, first-holds}
 use Rattle.orders.proofs.utils.lengths_fit.Statement.{statement}
 use Rattle.orders.proofs.utils.lengths_fit.Tie as tie
 

@@ -1,12 +1,12 @@
 use borrow.Author.Needs.{needs}
-use Rattle.fields.proofs.Answers.{answers}
+use Rattle.fields.specs.AnswerLaws.{answers}
 use Prim.Native.Nat.{_^_, _<_, _≤_}
 use mathlib.Core.Path.{_∙_, ap, subst}
 use mir.Facts.{toZ-ofZ}
 use Rattle.fields.specs.Signed.{partsOf}
 use Rattle.fields.specs.declared.signed.SignAndSize.{SignAndSize}
 use Rattle.orders.specs.Orders.{offsetAnswer, offsetIndex}
-use Rattle.orders.proofs.Offsets.{smaller}
+use Rattle.orders.proofs.Offsets.{offset-fits}
 use Rattle.orders.proofs.utils.offset_bit_reversed_circle_domain_index.Statement.{statement}
 use Rattle.orders.proofs.utils.offset_bit_reversed_circle_domain_index.Tie as tie
 
@@ -31,8 +31,8 @@ offset-bit-reversed-circle-domain-index-requires :
     tie.Need-offset-bit-reversed-circle-domain-index-requires
 offset-bit-reversed-circle-domain-index-requires c κs =
     let args = c .before .before .before .before .before .args in
-    let sizes = smaller (args .domain-log-size) (args .eval-log-size) _ (c .before .before .before .before .is-smaller-domain .ensures) (c .before .before .before .if1 .left) in
-    (sizes .0, sizes .1, sizes .2, c .if2 .left)
+    offset-fits (args .domain-log-size) (args .eval-log-size) _ _ (c .before .before .before .before .is-smaller-domain .ensures)
+    (c .before .before .before .if1 .left) (c .if2 .left)
 
 returns-3 : tie.Need-returns-3
 unfolding offsetAnswer

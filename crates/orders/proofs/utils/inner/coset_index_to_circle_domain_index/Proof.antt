@@ -1,5 +1,5 @@
 use borrow.Author.Needs.{needs}
-use Rattle.fields.proofs.Answers.{answers}
+use Rattle.fields.specs.AnswerLaws.{answers}
 use Rattle.orders.specs.Orders.{toDomain}
 use Rattle.orders.proofs.utils.inner.coset_index_to_circle_domain_index.Statement.{statement}
 use Rattle.orders.proofs.utils.inner.coset_index_to_circle_domain_index.Tie as tie

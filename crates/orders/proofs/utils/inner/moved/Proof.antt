@@ -1,5 +1,5 @@
 use borrow.Author.Needs.{needs}
-use Rattle.fields.proofs.Answers.{answers}
+use Rattle.fields.specs.AnswerLaws.{answers}
 use native.Mathlib.Nat.{mod-lt}
 use native.Mathlib.Omega.{arith}
 use Rattle.orders.proofs.utils.inner.moved.Statement.{statement}
@@ -9,7 +9,7 @@ rem-result : tie.Need-rem-result
 rem-result c = search needs
 
 sub-result : tie.Need-sub-result
-sub-result c = omega (arith, mod-lt (c .before .args .s) (c .before .pre .0))
+sub-result c = omega (arith, mod-lt (c .before .args .s) (c .before .pre .some))
 
 add-result : tie.Need-add-result
 add-result c = search needs

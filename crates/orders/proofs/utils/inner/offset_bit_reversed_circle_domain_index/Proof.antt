@@ -28,7 +28,8 @@ bit-reverse-index-requires c κs = search needs
 mul-offset-element : tie.Need-mul-offset-element
 mul-offset-element c =
     let args = c .before .before .before .args in
-    let low = places-below (args .eval-log-size) (args .domain-log-size) (c .before .before .before .pre .0) (c .before .before .before .pre .1) (args .steps) (c .before .before .before .pre .3) in
+    let low = places-below (args .eval-log-size) (args .domain-log-size) (c .before .before .before .pre .least)
+    (c .before .before .before .pre .most) (args .steps) (c .before .before .before .pre .few) in
     let product = ap (λ (t : ℕ). args .steps * t) (c .before .two-to2 .ensures) in
     record { fits = omega arith }
 
@@ -36,12 +37,20 @@ offset-element-requires : tie.Need-offset-element-requires
 offset-element-requires c κs =
     let args = c .before .before .before .args in
     let eval = args .eval-log-size in
-    let bounds = half-bounds eval (args .domain-log-size) (c .before .before .before .pre .0) (c .before .before .before .pre .1) in
+    let bounds = half-bounds eval (args .domain-log-size) (c .before .before .before .pre .least) (c .before .before .before .pre .most) in
     let half = c .before .before .two-to .ensures in
-    let below = element-below eval (args .domain-log-size) (c .before .before .before .pre .0) (c .before .before .before .pre .1) (args .i) in
-    let low = places-below eval (args .domain-log-size) (c .before .before .before .pre .0) (c .before .before .before .pre .1) (args .steps) (c .before .before .before .pre .3) in
+    let below = element-below eval (args .domain-log-size) (c .before .before .before .pre .least) (c .before .before .before .pre .most)
+    (args .i) in
+    let low = places-below eval (args .domain-log-size) (c .before .before .before .pre .least) (c .before .before .before .pre .most)
+    (args .steps) (c .before .before .before .pre .few) in
     let product = ap (λ (t : ℕ). args .steps * t) (c .before .two-to2 .ensures) in
-    (omega (arith, bounds .0), omega (arith, c .bit-reverse-index .ensures), omega (arith, bounds .1), omega arith)
+    record {
+      some = omega (arith, bounds .0);
+      within = omega (arith, c .bit-reverse-index .ensures);
+      most =
+          omega (arith, bounds .1);
+      few = omega arith;
+    }
 
 bit-reverse-index-requires-2 : tie.Need-bit-reverse-index-requires-2
 bit-reverse-index-requires-2 c κs = search needs
@@ -51,7 +60,9 @@ returns c =
     let args = c .before .before .before .before .before .args in
     let eval = args .eval-log-size in
     let element = c .before .offset-element .ensures ∙ ap₂ (λ (h s : ℕ). offsetElement (args .back) h (c .before .before .bit-reverse-index .result) (args .steps * s)) (c .before .before .before .before .two-to .ensures) (c .before .before .before .two-to2 .ensures) in
-    offset-is eval (args .domain-log-size) (c .before .before .before .before .before .pre .0) (c .before .before .before .before .before .pre .1) (args .i) (args .back) (args .steps) _ _ _ (c .before .before .bit-reverse-index .ensures) element (c .bit-reverse-index2 .ensures)
+    offset-is eval (args .domain-log-size) (c .before .before .before .before .before .pre .least)
+    (c .before .before .before .before .before .pre .most) (args .i) (args .back) (args .steps) _ _ _
+    (c .before .before .bit-reverse-index .ensures) element (c .bit-reverse-index2 .ensures)
 
 pub offset-bit-reversed-circle-domain-index-spec : {M : Type 1} → statement M
 offset-bit-reversed-circle-domain-index-spec =

@@ -1,5 +1,5 @@
 use borrow.Author.Needs.{needs}
-use Rattle.fields.proofs.Answers.{answers}
+use Rattle.fields.specs.AnswerLaws.{answers}
 use Rattle.orders.specs.Orders.{offsetElement}
 use Prim.Native.Nat.{ℕ, _+_, _-_}
 use mathlib.Core.Path.{ap}
@@ -22,7 +22,7 @@ moved-requires-2 c κs = search needs
 add-result : tie.Need-add-result
 add-result c =
     let args = c .before .before .args in
-    let low = moved-below (not (args .back)) (args .half) (args .p - args .half) (args .s) (c .before .before .pre .0) in
+    let low = moved-below (not (args .back)) (args .half) (args .p - args .half) (args .s) (c .before .before .pre .some) in
     record { fits = omega (arith, c .moved2 .ensures) }
 
 returns-2 : tie.Need-returns-2

@@ -110,8 +110,13 @@ same-length c = search needs
 
 returns : tie.Need-returns
 returns c =
-    let args = c .before .before .before .before .before .before .before .before .before .before .before .before .before .before .before .before .before .args in
-    block-made (args .quarter) (args .x) (args .y) (args .v .now) _ _ _ _ (c .before .before .before .before .before .before .before .before .before .before .before .before .before .before .swap-row .ensures) (c .before .before .before .before .before .before .before .before .before .before .swap-row2 .ensures) (c .before .before .before .before .before .before .swap-row3 .ensures) (c .before .before .swap-row4 .ensures)
+    let fourth = c .before .before in
+    let third = fourth .before .before .before .before in
+    let second = third .before .before .before .before in
+    let first = second .before .before .before .before in
+    let args = first .before .before .before .args in
+    block-made (args .quarter) (args .x) (args .y) (args .v .now) _ _ _ _ (first .swap-row .ensures) (second .swap-row2 .ensures)
+    (third .swap-row3 .ensures) (fourth .swap-row4 .ensures)
 
 pub swap-block-spec : {M : Type 1} → statement M
 swap-block-spec =

@@ -1,5 +1,5 @@
 use borrow.Author.Needs.{needs}
-use Rattle.fields.proofs.Answers.{answers}
+use Rattle.fields.specs.AnswerLaws.{answers}
 use Rattle.orders.specs.Swaps.{swappedIfBefore}
 use Rattle.orders.proofs.utils.inner.swap_if_before.Statement.{statement}
 use Rattle.orders.proofs.utils.inner.swap_if_before.Tie as tie

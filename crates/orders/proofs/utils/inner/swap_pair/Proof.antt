@@ -32,8 +32,10 @@ same-length c = search needs
 
 returns : tie.Need-returns
 returns c =
-    let args = c .before .before .before .before .before .before .before .before .before .args in
-    pair-made (args .last) (args .x) (args .y) (args .v .now) _ _ (c .before .before .before .before .before .before .swap-if-before .ensures) (c .before .before .swap-if-before2 .ensures)
+    let second = c .before .before in
+    let first = second .before .before .before .before in
+    let args = first .before .before .before .args in
+    pair-made (args .last) (args .x) (args .y) (args .v .now) _ _ (first .swap-if-before .ensures) (second .swap-if-before2 .ensures)
 
 pub swap-pair-spec : {M : Type 1} → statement M
 swap-pair-spec =

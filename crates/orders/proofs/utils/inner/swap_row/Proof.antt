@@ -62,8 +62,13 @@ same-length c = search needs
 
 returns : tie.Need-returns
 returns c =
-    let args = c .before .before .before .before .before .before .before .before .before .before .before .before .before .before .before .before .before .args in
-    row-made (args .quarter) (args .t) (args .u) (args .from) (args .to) (args .v .now) _ _ _ _ (c .before .before .before .before .before .before .before .before .before .before .before .before .before .before .swap-if-before .ensures) (c .before .before .before .before .before .before .before .before .before .before .swap-if-before2 .ensures) (c .before .before .before .before .before .before .swap-if-before3 .ensures) (c .before .before .swap-if-before4 .ensures)
+    let fourth = c .before .before in
+    let third = fourth .before .before .before .before in
+    let second = third .before .before .before .before in
+    let first = second .before .before .before .before in
+    let args = first .before .before .before .args in
+    row-made (args .quarter) (args .t) (args .u) (args .from) (args .to) (args .v .now) _ _ _ _ (first .swap-if-before .ensures)
+    (second .swap-if-before2 .ensures) (third .swap-if-before3 .ensures) (fourth .swap-if-before4 .ensures)
 
 pub swap-row-spec : {M : Type 1} → statement M
 swap-row-spec =

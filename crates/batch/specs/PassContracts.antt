@@ -1,0 +1,54 @@
+-- What the passes of Montgomery's trick take and leave, for any units.
+use Prim.Native.Nat.{ℕ, _-_, _*_, _/_, _≤_, _<_}
+use mathlib.Core.Path.{_≡_}
+use mathlib.Core.List.{List}
+use lib.ListN.{length}
+use Rattle.batch.specs.Batch.{Layout, inverted}
+use Rattle.batch.specs.Passes.{Units, Column, Holds, size, product, inverses}
+
+module _ (U : Units) where
+  open Layout (U .layout) using (El, width)
+
+  -- two elements to be multiplied
+  pub record Factors (a b : El) : Type 0 where
+    pub left : U .Unit a
+    pub right : U .Unit b
+
+  -- a column to be inverted, and a destination as long
+  pub record Inverting (column dst : List ℕ) : Type 0 where
+    pub elements : Column U (size U column) column
+    pub room : length dst ≡ length column
+
+  -- one to be inverted part after part of so many words, and a destination no shorter
+  pub record InvertingParts (column dst : List ℕ) (words : ℕ) : Type 0 where
+    pub elements : Column U (size U column) column
+    pub room : length column ≤ length dst
+    pub some : 0 < length column → 0 < words
+    pub even : words ≡ words / width * width
+
+  -- both leave the inverses, and the words after them as they were
+  pub record Inverted (column dst exit : List ℕ) : Type 0 where
+    pub result : exit ≡ inverted (U .layout) (U .inverse) (size U column) column dst
+
+  -- the pass of products takes a column of one element or more
+  pub record BeforeProducts (column dst : List ℕ) : Type 0 where
+    pub elements : Column U (size U column) column
+    pub room : length dst ≡ length column
+    pub nonempty : 0 < length column
+
+  -- it answers the product of the whole column, and leaves the products of the elements 0 to k
+  pub record AfterProducts (column exit : List ℕ) (answer : El) : Type 0 where
+    pub whole : answer ≡ product U column (size U column - 1)
+    pub products : Holds U (product U column) 0 (size U column) exit
+
+  -- the pass of inverses takes these products, and the inverse of the whole product
+  pub record BeforeInverses (column dst : List ℕ) (rest : El) : Type 0 where
+    pub elements : Column U (size U column) column
+    pub room : length dst ≡ length column
+    pub nonempty : 0 < length column
+    pub products : Holds U (product U column) 0 (size U column) dst
+    pub inverse : rest ≡ U .inverse (product U column (size U column - 1))
+
+  -- it leaves the inverses
+  pub record AfterInverses (column exit : List ℕ) : Type 0 where
+    pub result : Holds U (inverses U column) 0 (size U column) exit
