@@ -1,12 +1,11 @@
 -- An index by its digits, lowest first: the sum of the points of the digits seen is the point of the number they make.
-use Prim.Native.Nat.{ℕ, suc, _+_, _*_, _/_, _%_, _^_, _≤_, _<_}
+use Prim.Native.Nat.{ℕ, suc, _+_, _*_, _/_, _%_, _^_, _<_}
 use mathlib.Core.Path.{_≡_, sym, _∙_, ap, ap₂}
 use native.Mathlib.Nat as N
 use native.Mathlib.Decide.{ℕ-discrete}
 use native.Mathlib.Omega.{arith}
 use lib.Arith.{mod-mul}
 use lib.Dec.{lit<}
-use lib.Pow.{pow-lt}
 use Rattle.algebra.specs.M31.{m31}
 use Rattle.algebra.specs.Circle.{plus, zeroPoint, multiple}
 use Rattle.fields.specs.Words.{words31}
@@ -14,7 +13,7 @@ use Rattle.fields.specs.Inverse.{m31-representation}
 use Rattle.circle.specs.Point.{generator}
 use Rattle.circle.specs.Index.{indexPoint}
 use Rattle.circle.specs.Points.{multiple-add}
-use Rattle.circle.specs.Table.{windows, digits, entry}
+use Rattle.circle.specs.Table.{windows, digits, InTable, entry}
 use Rattle.circle.specs.TableRule.{last-digit}
 
 power-pos : (w : ℕ) → 0 < digits ^ w
@@ -58,9 +57,5 @@ digit-below k w rest h e =
     omega (arith, ap (λ (r : ℕ). r % digits * digits ^ w) e, low-digits k w, N.div-add-mod' k (digits ^ (w + 1)))
 
 -- the place of an entry in the table
-pub in-table : (w d : ℕ) → w < windows → d < digits → d * digits ^ w < 2 ^ 31 → 2 * (digits * w + d) + 1 < 1792
-in-table w d l h k = elim (ℕ-discrete w 3) [ yes e ↦ omega (arith, last-digit w d k e) | no n ↦ omega arith ]
-
--- a shift of 1 within a word
-pub power-of-two : (n : ℕ) → n ≤ 31 → 1 * 2 ^ n % 2 ^ 64 ≡ 2 ^ n
-power-of-two n h = ap (λ (m : ℕ). m % 2 ^ 64) (N.one-mul (2 ^ n)) ∙ N.mod-eq-of-lt (pow-lt {i = n} {j = 64} (omega arith))
+pub in-table : (w d : ℕ) → InTable w d → 2 * (digits * w + d) + 1 < 1792
+in-table w d t = elim (ℕ-discrete w 3) [ yes e ↦ omega (arith, last-digit w d (t .isIndex) e) | no n ↦ omega arith ]

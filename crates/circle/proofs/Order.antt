@@ -3,22 +3,23 @@ use Prim.Native.Nat.{ℕ, _+_, _-_, _*_, _^_, _<_}
 use mathlib.Core.Path.{_≡_, refl, sym}
 use mathlib.Core.Bool.{Bool, true, false}
 use native.Mathlib.Omega.{arith}
-use lib.Dec.{leb, ltb}
-use borrow.Author.Tests.{leb-true, leb-false, ltb-true, ltb-false, le-leb, lt-leb}
+use lib.Dec.{ltb}
+use borrow.Author.Tests.{ltb-true, ltb-false, lt-ltb, le-ltb}
 use Rattle.algebra.specs.M31.{P}
 
 -- where the high words agree
-pub at-order : (high low : ℕ) → high ≡ 1152921502459363329 → leb 9223372028264841216 low ≡ leb (P ^ 4 - 1) (high * 2 ^ 64 + low)
-at-order high low e = test (leb 9223372028264841216 low) refl
+pub same-high : (high low : ℕ) → high ≡ 1152921502459363329 → ltb low 9223372028264841216 ≡ ltb (high * 2 ^ 64 + low) (P ^ 4 - 1)
+same-high high low e = test (ltb low 9223372028264841216) refl
   where
-    test : (t : Bool) → leb 9223372028264841216 low ≡ t → t ≡ leb (P ^ 4 - 1) (high * 2 ^ 64 + low)
-    test true f = sym (le-leb (P ^ 4 - 1) (high * 2 ^ 64 + low) (omega (arith, e, leb-true 9223372028264841216 low f)))
-    test false f = sym (lt-leb (P ^ 4 - 1) (high * 2 ^ 64 + low) (omega (arith, e, leb-false 9223372028264841216 low f)))
+    test : (t : Bool) → ltb low 9223372028264841216 ≡ t → t ≡ ltb (high * 2 ^ 64 + low) (P ^ 4 - 1)
+    test true f = sym (lt-ltb (high * 2 ^ 64 + low) (P ^ 4 - 1) (omega (arith, e, ltb-true low 9223372028264841216 f)))
+    test false f = sym (le-ltb (high * 2 ^ 64 + low) (P ^ 4 - 1) (omega (arith, e, ltb-false low 9223372028264841216 f)))
 
 -- where they don't
-pub past-order : (high low : ℕ) → low < 2 ^ 64 → ¬ (high ≡ 1152921502459363329) → ltb 1152921502459363329 high ≡ leb (P ^ 4 - 1) (high * 2 ^ 64 + low)
-past-order high low h n = test (ltb 1152921502459363329 high) refl
+pub other-high : (high low : ℕ) → low < 2 ^ 64 → ¬ (high ≡ 1152921502459363329)
+    → ltb high 1152921502459363329 ≡ ltb (high * 2 ^ 64 + low) (P ^ 4 - 1)
+other-high high low h n = test (ltb high 1152921502459363329) refl
   where
-    test : (t : Bool) → ltb 1152921502459363329 high ≡ t → t ≡ leb (P ^ 4 - 1) (high * 2 ^ 64 + low)
-    test true f = sym (le-leb (P ^ 4 - 1) (high * 2 ^ 64 + low) (omega (arith, ltb-true 1152921502459363329 high f)))
-    test false f = sym (lt-leb (P ^ 4 - 1) (high * 2 ^ 64 + low) (omega (arith, n, h, ltb-false 1152921502459363329 high f)))
+    test : (t : Bool) → ltb high 1152921502459363329 ≡ t → t ≡ ltb (high * 2 ^ 64 + low) (P ^ 4 - 1)
+    test true f = sym (lt-ltb (high * 2 ^ 64 + low) (P ^ 4 - 1) (omega (arith, h, ltb-true high 1152921502459363329 f)))
+    test false f = sym (le-ltb (high * 2 ^ 64 + low) (P ^ 4 - 1) (omega (arith, n, ltb-false high 1152921502459363329 f)))

@@ -1,8 +1,10 @@
 -- What each call of point indices answers: the refusals of document 01's table in its order, then numbers modulo 2^31.
-use Prim.Native.Nat.{ℕ, _+_, _-_, _*_, _/_, _%_, _^_}
-use mathlib.Core.Bool.{cond}
-use lib.Dec.{ltb, eqb}
+use Prim.Native.Nat.{ℕ, _+_, _-_, _*_, _/_, _%_, _^_, _≤_}
+use mathlib.Core.Bool.{Bool}
+use mathlib.Core.List.{_++_}
+use lib.Dec.{leb, eqb}
 use Rattle.algebra.specs.Circle.{multiple}
+use Rattle.fields.specs.Check.{Checks, need, checked}
 use Rattle.fields.specs.Words.{words31}
 use Rattle.fields.specs.declared.refusal.Refusal.the-variants.{LogSize, Index, Halving}
 use Rattle.circle.specs.Point.{ofPoint, generator}
@@ -14,6 +16,17 @@ use Rattle.circle.specs.declared.index.CirclePointIndexAnswer.the-varian
 
 abbrev pub ofIndex : ℕ → CirclePointIndex
 ofIndex k = record { 0 = k }
+
+-- a point index lies in 0 to 2^31, both ends allowed
+abbrev pub IsIndex : CirclePointIndex → Type 0
+IsIndex k = k .0 ≤ 2 ^ 31
+
+abbrev pub isIndex : CirclePointIndex → Bool
+isIndex k = leb (k .0) (2 ^ 31)
+
+-- else number 4
+abbrev pub inRange : CirclePointIndex → Checks
+inRange k = need (isIndex k) Index
 
 -- the point of index k: G added k times to zero
 abbrev pub indexPoint : ℕ → ℕ × ℕ
@@ -27,33 +40,29 @@ subgroupGen n = 2 ^ (31 - n)
 abbrev pub negIndex : ℕ → ℕ
 negIndex k = (2 ^ 31 - k) % 2 ^ 31
 
--- the answer where the index is at most 2^31, else number 4
-abbrev pub checked : CirclePointIndex → CirclePointIndexAnswer → CirclePointIndexAnswer
-checked k answer = cond (ltb (2 ^ 31) (k .0)) (Refused Index) answer
-
 unfoldable pub reduceAnswer : CirclePointIndex → CirclePointIndexAnswer
-reduceAnswer k = checked k (Value (ofIndex (k .0 % 2 ^ 31)))
+reduceAnswer k = checked (inRange k) Refused (Value (ofIndex (k .0 % 2 ^ 31)))
 
--- number 6 above 31
+-- a log size of at most 31, else number 6
 unfoldable pub subgroupGenAnswer : ℕ → CirclePointIndexAnswer
-subgroupGenAnswer n = cond (ltb 31 n) (Refused LogSize) (Value (ofIndex (subgroupGen n)))
+subgroupGenAnswer n = checked (need (leb n 31) LogSize) Refused (Value (ofIndex (subgroupGen n)))
 
 unfoldable pub toPointAnswer : CirclePointIndex → CirclePointAnswer
-toPointAnswer k = cond (ltb (2 ^ 31) (k .0)) (P.Refused Index) (P.Value (ofPoint (indexPoint (k .0))))
+toPointAnswer k = checked (inRange k) P.Refused (P.Value (ofPoint (indexPoint (k .0))))
 
--- number 5 for an odd index
+-- an even index, else number 5
 unfoldable pub halfAnswer : CirclePointIndex → CirclePointIndexAnswer
-halfAnswer k = checked k (cond (eqb (k .0 % 2) 0) (Value (ofIndex (k .0 / 2))) (Refused Halving))
+halfAnswer k = checked (inRange k ++ need (eqb (k .0 % 2) 0) Halving) Refused (Value (ofIndex (k .0 / 2)))
 
 unfoldable pub addAnswer : CirclePointIndex → CirclePointIndex → CirclePointIndexAnswer
-addAnswer j k = checked j (checked k (Value (ofIndex ((j .0 + k .0) % 2 ^ 31))))
+addAnswer j k = checked (inRange j ++ inRange k) Refused (Value (ofIndex ((j .0 + k .0) % 2 ^ 31)))
 
 unfoldable pub subAnswer : CirclePointIndex → CirclePointIndex → CirclePointIndexAnswer
-subAnswer j k = checked j (checked k (Value (ofIndex ((j .0 + 2 ^ 31 - k .0) % 2 ^ 31))))
+subAnswer j k = checked (inRange j ++ inRange k) Refused (Value (ofIndex ((j .0 + 2 ^ 31 - k .0) % 2 ^ 31)))
 
 unfoldable pub negAnswer : CirclePointIndex → CirclePointIndexAnswer
-negAnswer k = checked k (Value (ofIndex (negIndex (k .0))))
+negAnswer k = checked (inRange k) Refused (Value (ofIndex (negIndex (k .0))))
 
 -- modulo 2^64, then reduced
 unfoldable pub mulAnswer : CirclePointIndex → ℕ → CirclePointIndexAnswer
-mulAnswer k n = checked k (Value (ofIndex ((k .0 * n) % 2 ^ 64 % 2 ^ 31)))
+mulAnswer k n = checked (inRange k) Refused (Value (ofIndex ((k .0 * n) % 2 ^ 64 % 2 ^ 31)))

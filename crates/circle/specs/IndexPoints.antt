@@ -62,13 +62,15 @@ index-double j k turns e =
     let twice : j + j ≡ k + turns * 2 ^ 31 = omega arith in
     sym (index-add j j) ∙ index-reduce (j + j) ∙ index-equal (j + j) k .1 (ap (λ (t : ℕ). t % 2 ^ 31) twice ∙ N.add-mul-mod-self-right k turns (2 ^ 31))
 
--- 2^31 divides 2^64, so the product modulo 2^64 has the point of the product
+-- 2^31 divides 2^64
+pub low-product : (m : ℕ) → m % 2 ^ 31 ≡ m % 2 ^ 64 % 2 ^ 31
+low-product m = omega arith
+
+-- so the product modulo 2^64 has the point of the product
 pub index-mul : (k n : ℕ) → indexPoint ((k * n) % 2 ^ 64 % 2 ^ 31) ≡ multiple words31 n (indexPoint k)
 index-mul k n =
-    ap indexPoint (low (k * n)) ∙ index-reduce (k * n) ∙ ap indexPoint (N.mul-comm k n) ∙ multiple-mul words31 m31 m31-representation n k generator
-  where
-    low : (m : ℕ) → m % 2 ^ 64 % 2 ^ 31 ≡ m % 2 ^ 31
-    low m = omega arith
+    ap indexPoint (sym (low-product (k * n))) ∙ index-reduce (k * n) ∙ ap indexPoint (N.mul-comm k n)
+    ∙ multiple-mul words31 m31 m31-representation n k generator
 
 -- 2^29 G = (0, -1)
 pub index-quarter : indexPoint (2 ^ 29) ≡ (0, P - 1)

@@ -1,5 +1,5 @@
 -- The constant table: windows w = 0 to 3, digits d = 0 to 255 (to 127 in window 3), entry (d 256^w) G.
-use Prim.Native.Nat.{ℕ, zero, suc, _-_, _*_, _^_}
+use Prim.Native.Nat.{ℕ, zero, suc, _-_, _*_, _^_, _<_}
 use mathlib.Core.List.{List, [], _∷_, _++_}
 use lib.ListN.{take, drop}
 use Rattle.algebra.specs.Circle.{plus, zeroPoint, multiple}
@@ -19,6 +19,12 @@ lastDigits = 128
 
 abbrev pub entry : ℕ → ℕ → ℕ × ℕ
 entry window digit = indexPoint (digit * digits ^ window)
+
+-- a window and a digit that the table has
+pub record InTable (window digit : ℕ) : Type 0 where
+  pub isWindow : window < windows
+  pub isDigit : digit < digits
+  pub isIndex : digit * digits ^ window < 2 ^ 31
 
 -- the words of n points from p on, each by `base` more than the one before
 unfoldable pub run : ℕ → ℕ × ℕ → ℕ × ℕ → List ℕ

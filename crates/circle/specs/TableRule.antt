@@ -12,7 +12,7 @@ use Rattle.fields.specs.Words.{words31}
 use Rattle.fields.specs.Inverse.{m31-representation}
 use Rattle.circle.specs.Point.{generator}
 use Rattle.circle.specs.Points.{multiple-mul}
-use Rattle.circle.specs.Table.{windows, digits, lastDigits, entry, run, windowsFrom, tableWords, tableRow}
+use Rattle.circle.specs.Table.{windows, digits, lastDigits, InTable, entry, run, windowsFrom, tableWords, tableRow}
 
 -- point k of a list of points by their words
 abbrev pub pointAt : List ℕ → ℕ → ℕ × ℕ
@@ -77,9 +77,9 @@ window-at (suc m) (suc w) d base l h k =
 pub last-digit : (w d : ℕ) → d * digits ^ w < 2 ^ 31 → w ≡ windows - 1 → d < lastDigits
 last-digit w d h e = omega (arith, ap (λ (n : ℕ). d * digits ^ n) e)
 
-table-entry : (w d : ℕ) → w < windows → d < digits → d * digits ^ w < 2 ^ 31 → pointAt tableWords (digits * w + d) ≡ entry w d
+table-entry : (w d : ℕ) → InTable w d → pointAt tableWords (digits * w + d) ≡ entry w d
 unfolding tableWords
-table-entry w d l h k = window-at (windows - 1) w d generator (omega arith) h (last-digit w d k)
+table-entry w d t = window-at (windows - 1) w d generator (omega arith) (t .isDigit) (last-digit w d (t .isIndex))
 
 row-at : (k i : ℕ) → i < 16 → pointAt (tableRow k) i ≡ pointAt tableWords (16 * k + i)
 row-at k i h = λ j. (word (2 * i) (2 * (16 * k + i)) (omega arith) (omega arith) j, word (2 * i + 1) (2 * (16 * k + i) + 1) (omega arith) (omega arith) j)
@@ -88,10 +88,11 @@ row-at k i h = λ j. (word (2 * i) (2 * (16 * k + i)) (omega arith) (omega arith
     word m n l e = getD-take 32 (drop (32 * k) tableWords) m 0 l ∙ getD-drop (32 * k) tableWords m 0 ∙ ap (λ (t : ℕ). getD tableWords t 0) e
 
 -- an entry in its row
-pub row-entry : (w d : ℕ) (row : List ℕ) → row ≡ tableRow ((digits * w + d) / 16) → w < windows → d < digits → d * digits ^ w < 2 ^ 31
+pub row-entry : (w d : ℕ) (row : List ℕ) → row ≡ tableRow ((digits * w + d) / 16) → InTable w d
     → pointAt row ((digits * w + d) % 16) ≡ entry w d
-row-entry w d row e l h k =
-    ap (λ (t : List ℕ). pointAt t (at % 16)) e ∙ row-at (at / 16) (at % 16) (omega arith) ∙ ap (pointAt tableWords) whole ∙ table-entry w d l h k
+row-entry w d row e t =
+    ap (λ (t : List ℕ). pointAt t (at % 16)) e ∙ row-at (at / 16) (at % 16) (omega arith) ∙ ap (pointAt tableWords) whole
+    ∙ table-entry w d t
   where
     at : ℕ
     at = digits * w + d

@@ -31,10 +31,10 @@ impl CirclePointIndex {
     pub fn reduce(self) -> CirclePointIndexAnswer
         ensures { λ r. ⌜ r ≡ reduceAnswer self ⌝ }
     {
-        if inner::MOST < self.0 {
+        if !inner::is_index(self) {
             return CirclePointIndexAnswer::Refused(Refusal::Index);
         }
-        CirclePointIndexAnswer::Value(CirclePointIndex(inner::reduce(self.0)))
+        CirclePointIndexAnswer::Value(inner::reduce(self))
     }
 
     // 2^31 for log size 0: not reduced.
@@ -44,22 +44,22 @@ impl CirclePointIndex {
         if M31_CIRCLE_LOG_ORDER < log_size {
             return CirclePointIndexAnswer::Refused(Refusal::LogSize);
         }
-        CirclePointIndexAnswer::Value(CirclePointIndex(inner::subgroup_gen(log_size)))
+        CirclePointIndexAnswer::Value(inner::subgroup_gen(log_size))
     }
 
     pub fn to_point(self) -> CirclePointAnswer
         ensures { λ r. ⌜ r ≡ toPointAnswer self ⌝ }
     {
-        if inner::MOST < self.0 {
+        if !inner::is_index(self) {
             return CirclePointAnswer::Refused(Refusal::Index);
         }
-        CirclePointAnswer::Value(inner::to_point(self.0))
+        CirclePointAnswer::Value(inner::to_point(self))
     }
 
     pub fn half(self) -> CirclePointIndexAnswer
         ensures { λ r. ⌜ r ≡ halfAnswer self ⌝ }
     {
-        if inner::MOST < self.0 {
+        if !inner::is_index(self) {
             return CirclePointIndexAnswer::Refused(Refusal::Index);
         }
         if self.0 % 2 != 0 {
@@ -71,46 +71,43 @@ impl CirclePointIndex {
     pub fn add(self, rhs: CirclePointIndex) -> CirclePointIndexAnswer
         ensures { λ r. ⌜ r ≡ addAnswer self rhs ⌝ }
     {
-        if inner::MOST < self.0 {
+        if !inner::is_index(self) {
             return CirclePointIndexAnswer::Refused(Refusal::Index);
         }
-        if inner::MOST < rhs.0 {
+        if !inner::is_index(rhs) {
             return CirclePointIndexAnswer::Refused(Refusal::Index);
         }
-        CirclePointIndexAnswer::Value(CirclePointIndex(inner::reduce(self.0 + rhs.0)))
+        CirclePointIndexAnswer::Value(inner::add(self, rhs))
     }
 
     pub fn sub(self, rhs: CirclePointIndex) -> CirclePointIndexAnswer
         ensures { λ r. ⌜ r ≡ subAnswer self rhs ⌝ }
     {
-        if inner::MOST < self.0 {
+        if !inner::is_index(self) {
             return CirclePointIndexAnswer::Refused(Refusal::Index);
         }
-        if inner::MOST < rhs.0 {
+        if !inner::is_index(rhs) {
             return CirclePointIndexAnswer::Refused(Refusal::Index);
         }
-        CirclePointIndexAnswer::Value(CirclePointIndex(inner::reduce(self.0 + inner::MOST - rhs.0)))
+        CirclePointIndexAnswer::Value(inner::sub(self, rhs))
     }
 
     // Any count: the product is taken modulo 2^64 and then reduced.
     pub fn mul(self, rhs: u64) -> CirclePointIndexAnswer
         ensures { λ r. ⌜ r ≡ mulAnswer self rhs ⌝ }
     {
-        if inner::MOST < self.0 {
+        if !inner::is_index(self) {
             return CirclePointIndexAnswer::Refused(Refusal::Index);
         }
-        CirclePointIndexAnswer::Value(CirclePointIndex(inner::reduce(inner::wrapping_mul(
-            self.0,
-            rhs,
-        ))))
+        CirclePointIndexAnswer::Value(inner::mul(self, rhs))
     }
 
     pub fn neg(self) -> CirclePointIndexAnswer
         ensures { λ r. ⌜ r ≡ negAnswer self ⌝ }
     {
-        if inner::MOST < self.0 {
+        if !inner::is_index(self) {
             return CirclePointIndexAnswer::Refused(Refusal::Index);
         }
-        CirclePointIndexAnswer::Value(CirclePointIndex(inner::reduce(inner::MOST - self.0)))
+        CirclePointIndexAnswer::Value(inner::neg(self))
     }
 }

@@ -15,6 +15,7 @@ use fields::m31::M31Answer;
 use fields::m31::P;
 use fields::qm31::QM31;
 use fields::refusal::Refusal;
+use fields::wide::U128;
 
 pub mod inner;
 
@@ -93,7 +94,7 @@ impl CirclePoint {
         if !inner::is_reduced(self) {
             return CirclePointAnswer::Refused(Refusal::Word(0));
         }
-        CirclePointAnswer::Value(inner::mul(self, high, low))
+        CirclePointAnswer::Value(inner::mul(self, U128 { high, low }))
     }
 
     pub fn repeated_double(self, n: u32) -> CirclePointAnswer

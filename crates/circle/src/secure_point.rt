@@ -1,9 +1,10 @@
 // Points over QM31 (stwo's CirclePoint<SecureField>). Their coordinates needn't lie on the circle.
 ghost use mathlib.Core.Path.{_≡_};
 ghost use Prim.Native.Nat.{_+_, _*_, _-_, _^_};
-ghost use lib.Dec.{leb};
+ghost use lib.Dec.{ltb};
 ghost use Rattle.algebra.specs.M31.{P};
 ghost use Rattle.algebra.specs.Circle.{zeroPoint};
+ghost use Rattle.fields.specs.Wide.{number};
 ghost use Rattle.fields.specs.Words.{quarticWords};
 ghost use Rattle.circle.specs.SecurePoint.{ofPoint, addAnswer, subAnswer, doubleAnswer, doubleXAnswer, mulAnswer, mulSignedAnswer, repeatedDoubleAnswer, conjugateAnswer, antipodeAnswer, complexConjugateAnswer, getPointAnswer};
 use crate::scalar;
@@ -15,6 +16,7 @@ use fields::qm31::QM31;
 use fields::qm31::QM31Answer;
 use fields::qm31::inner as qm31;
 use fields::refusal::Refusal;
+use fields::wide::U128;
 
 pub mod inner;
 
@@ -42,14 +44,13 @@ pub const SECURE_FIELD_CIRCLE_ORDER_HIGH: u64 = P4_HIGH;
 
 pub const SECURE_FIELD_CIRCLE_ORDER_LOW: u64 = P4_LOW - 1;
 
-// high 2^64 + low is the order or more
-fn is_beyond_order(high: u64, low: u64) -> bool
-    ensures { λ r. ⌜ r ≡ leb (P ^ 4 - 1) (high * 2 ^ 64 + low) ⌝ }
+fn is_below_order(n: U128) -> bool
+    ensures { λ r. ⌜ r ≡ ltb (number n) (P ^ 4 - 1) ⌝ }
 {
-    if high == SECURE_FIELD_CIRCLE_ORDER_HIGH {
-        return SECURE_FIELD_CIRCLE_ORDER_LOW <= low;
+    if n.high == SECURE_FIELD_CIRCLE_ORDER_HIGH {
+        return n.low < SECURE_FIELD_CIRCLE_ORDER_LOW;
     }
-    SECURE_FIELD_CIRCLE_ORDER_HIGH < high
+    n.high < SECURE_FIELD_CIRCLE_ORDER_HIGH
 }
 
 impl SecureCirclePoint {
@@ -88,7 +89,7 @@ impl SecureCirclePoint {
         if !inner::is_reduced(self) {
             return SecureCirclePointAnswer::Refused(Refusal::Word(0));
         }
-        SecureCirclePointAnswer::Value(inner::mul(self, high, low))
+        SecureCirclePointAnswer::Value(inner::mul(self, U128 { high, low }))
     }
 
     pub fn repeated_double(self, n: u32) -> SecureCirclePointAnswer
@@ -173,9 +174,10 @@ impl SecureCirclePoint {
     pub fn get_point(high: u64, low: u64) -> SecureCirclePointAnswer
         ensures { λ r. ⌜ r ≡ getPointAnswer (high * 2 ^ 64 + low) ⌝ }
     {
-        if is_beyond_order(high, low) {
+        let n = U128 { high, low };
+        if !is_below_order(n) {
             return SecureCirclePointAnswer::Refused(Refusal::Scalar);
         }
-        SecureCirclePointAnswer::Value(inner::mul(SECURE_FIELD_CIRCLE_GEN, high, low))
+        SecureCirclePointAnswer::Value(inner::mul(SECURE_FIELD_CIRCLE_GEN, n))
     }
 }

@@ -1,6 +1,5 @@
-pub mod Answers
 pub mod Reductions
 pub mod Powers
-pub mod Pairs
-pub mod Seen
-pub mod Wide
+pub mod ProductSums
+pub mod PowerLoop
+pub mod TwoWords

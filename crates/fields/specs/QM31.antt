@@ -1,15 +1,16 @@
 -- What each call of QM31 answers: the refusals of document 01's table in its order, then its pair formulas, u² = 2 + i.
 use Prim.Native.Nat.{ℕ}
-use mathlib.Core.Bool.{Bool, cond, _&&_}
-use mathlib.Core.List.{List}
-use lib.Dec.{leb, eqb}
+use mathlib.Core.Bool.{Bool, not, _&&_}
+use mathlib.Core.List.{List, _++_}
+use lib.Dec.{eqb}
 use lib.ListN.{getD}
 use Rattle.algebra.specs.Ring.{sub}
 use Rattle.algebra.specs.Power.{pow}
 use Rattle.algebra.specs.Extension.{embed, conjugate}
-use Rattle.algebra.specs.M31.{P}
+use Rattle.fields.specs.Check.{Checks, need, checked}
 use Rattle.fields.specs.Words.{words31, invP, complexWords, quarticWords, quarticInverse}
 use Rattle.fields.specs.M31.{ofWord, reduceAnswer}
+use Rattle.fields.specs.M31 as M31
 use Rattle.fields.specs.CM31.{pairOf, ofPair}
 use Rattle.fields.specs.CM31 as C
 use Rattle.fields.specs.declared.m31.M31.{M31}
@@ -36,29 +37,32 @@ ofPairs p = record { 0 = ofPair (p .0); 1 = ofPair (p .1) }
 abbrev pub Reduced : QM31 → Type 0
 Reduced a = C.Reduced (a .0) × C.Reduced (a .1)
 
+pub record AllReduced (a b c d : QM31) : Type 0 where
+  pub first : Reduced a
+  pub second : Reduced b
+  pub third : Reduced c
+  pub fourth : Reduced d
+
 abbrev pub reduced : QM31 → Bool
 reduced a = C.reduced (a .0) && C.reduced (a .1)
 
 abbrev pub isZero : QM31 → Bool
 isZero a = C.isZero (a .0) && C.isZero (a .1)
 
--- the answer where the words of a are below P, else number 1
-abbrev pub checked : {A : Type 0} → QM31 → A → A → A
-checked a refused answer = cond (reduced a) answer refused
+-- the words are below P, else number 1
+abbrev pub words : QM31 → Checks
+words a = need (reduced a) (Word 0)
 
--- the number 1 of an answer that is a QM31
-abbrev pub badWord : QM31Answer
-badWord = Refused (Word 0)
-
-abbrev pub checkedWord : M31 → QM31Answer → QM31Answer
-checkedWord a answer = cond (leb P (a .0)) badWord answer
+-- a isn't zero, else number 3
+abbrev pub nonzero : QM31 → Checks
+nonzero a = need (not (isZero a)) (Inverse 0)
 
 -- m as (m + 0i) + 0u
 abbrev pub ofBase : ℕ → (ℕ × ℕ) × (ℕ × ℕ)
 ofBase m = embed complexWords (embed words31 m)
 
 unfoldable pub fromPairsAnswer : (ℕ × ℕ) × (ℕ × ℕ) → QM31Answer
-fromPairsAnswer p = checked (ofPairs p) badWord (Value (ofPairs p))
+fromPairsAnswer p = checked (words (ofPairs p)) Refused (Value (ofPairs p))
 
 -- word k of a list of elements of M31
 abbrev pub wordAt : List M31 → ℕ → ℕ
@@ -68,10 +72,10 @@ unfoldable pub fromArrayAnswer : List M31 → QM31Answer
 fromArrayAnswer array = fromPairsAnswer ((wordAt array 0, wordAt array 1), (wordAt array 2, wordAt array 3))
 
 unfoldable pub toArrayAnswer : QM31 → M31ArrayAnswer
-toArrayAnswer a = checked a (A.Refused (Word 0)) (A.Value (a .0 .0) (a .0 .1) (a .1 .0) (a .1 .1))
+toArrayAnswer a = checked (words a) A.Refused (A.Value (a .0 .0) (a .0 .1) (a .1 .0) (a .1 .1))
 
 unfoldable pub fromBaseAnswer : M31 → QM31Answer
-fromBaseAnswer a = checkedWord a (Value (ofPairs (ofBase (a .0))))
+fromBaseAnswer a = checked (M31.words a) Refused (Value (ofPairs (ofBase (a .0))))
 
 -- an answer of M31 as one of QM31
 unfoldable pub ofBaseAnswer : M31Answer → QM31Answer
@@ -83,51 +87,48 @@ abbrev pub fromNumberAnswer : ℕ → QM31Answer
 fromNumberAnswer n = ofBaseAnswer (reduceAnswer n)
 
 unfoldable pub isZeroAnswer : QM31 → BoolAnswer
-isZeroAnswer a = checked a (B.Refused (Word 0)) (B.Value (isZero a))
+isZeroAnswer a = checked (words a) B.Refused (B.Value (isZero a))
 
 unfoldable pub addAnswer : QM31 → QM31 → QM31Answer
-addAnswer a b = checked a badWord (checked b badWord (Value (ofPairs (quarticWords .add (pairsOf a) (pairsOf b)))))
+addAnswer a b = checked (words a ++ words b) Refused (Value (ofPairs (quarticWords .add (pairsOf a) (pairsOf b))))
 
 unfoldable pub subAnswer : QM31 → QM31 → QM31Answer
-subAnswer a b = checked a badWord (checked b badWord (Value (ofPairs (sub quarticWords (pairsOf a) (pairsOf b)))))
+subAnswer a b = checked (words a ++ words b) Refused (Value (ofPairs (sub quarticWords (pairsOf a) (pairsOf b))))
 
 unfoldable pub negAnswer : QM31 → QM31Answer
-negAnswer a = checked a badWord (Value (ofPairs (quarticWords .neg (pairsOf a))))
+negAnswer a = checked (words a) Refused (Value (ofPairs (quarticWords .neg (pairsOf a))))
 
 unfoldable pub mulAnswer : QM31 → QM31 → QM31Answer
-mulAnswer a b = checked a badWord (checked b badWord (Value (ofPairs (quarticWords .mul (pairsOf a) (pairsOf b)))))
+mulAnswer a b = checked (words a ++ words b) Refused (Value (ofPairs (quarticWords .mul (pairsOf a) (pairsOf b))))
 
 -- with an element b of CM31, as b + 0u
 unfoldable pub mulComplexAnswer : QM31 → CM31 → QM31Answer
 mulComplexAnswer a b =
-    checked a badWord (C.checked b badWord (Value (ofPairs (quarticWords .mul (pairsOf a) (embed complexWords (pairOf b))))))
+    checked (words a ++ C.words b) Refused
+    (Value (ofPairs (quarticWords .mul (pairsOf a) (embed complexWords (pairOf b)))))
 
 unfoldable pub squareAnswer : QM31 → QM31Answer
-squareAnswer a = checked a badWord (Value (ofPairs (quarticWords .mul (pairsOf a) (pairsOf a))))
+squareAnswer a = checked (words a) Refused (Value (ofPairs (quarticWords .mul (pairsOf a) (pairsOf a))))
 
 -- 0 to the power 0 is 1
 unfoldable pub powAnswer : QM31 → ℕ → QM31Answer
-powAnswer a n = checked a badWord (Value (ofPairs (pow quarticWords (pairsOf a) n)))
-
--- number 3 where a is zero
-abbrev pub nonzero : QM31 → QM31Answer → QM31Answer
-nonzero a answer = cond (isZero a) (Refused (Inverse 0)) answer
+powAnswer a n = checked (words a) Refused (Value (ofPairs (pow quarticWords (pairsOf a) n)))
 
 unfoldable pub inverseAnswer : QM31 → QM31Answer
-inverseAnswer a = checked a badWord (nonzero a (Value (ofPairs (quarticInverse (pairsOf a)))))
+inverseAnswer a = checked (words a ++ nonzero a) Refused (Value (ofPairs (quarticInverse (pairsOf a))))
 
 unfoldable pub divAnswer : QM31 → QM31 → QM31Answer
 divAnswer a b =
-    checked a badWord (checked b badWord (nonzero b (Value (ofPairs (quarticWords .mul (pairsOf a) (quarticInverse (pairsOf b)))))))
+    checked (words a ++ words b ++ nonzero b) Refused
+    (Value (ofPairs (quarticWords .mul (pairsOf a) (quarticInverse (pairsOf b)))))
 
 -- p - qu
 unfoldable pub conjugateAnswer : QM31 → QM31Answer
-conjugateAnswer a = checked a badWord (Value (ofPairs (conjugate complexWords (pairsOf a))))
+conjugateAnswer a = checked (words a) Refused (Value (ofPairs (conjugate complexWords (pairsOf a))))
 
 -- number 12 where another part than the first word isn't zero
 unfoldable pub narrowAnswer : QM31 → M31Answer
-narrowAnswer a =
-    checked a (M.Refused (Word 0)) (cond (C.isZero (a .1)) (cond (eqb (a .0 .1 .0) 0) (M.Value (a .0 .0)) (M.Refused Narrowing)) (M.Refused Narrowing))
+narrowAnswer a = checked (words a ++ need (C.isZero (a .1)) Narrowing ++ need (eqb (a .0 .1 .0) 0) Narrowing) M.Refused (M.Value (a .0 .0))
 
 -- a + bi + cu + diu, of elements a, b, c and d of QM31
 unfoldable pub partialEvals : (a b c d : (ℕ × ℕ) × (ℕ × ℕ)) → (ℕ × ℕ) × (ℕ × ℕ)
@@ -141,32 +142,35 @@ elementAt evals k = getD evals k (ofPairs (quarticWords .zero))
 
 abbrev pub checkedEvals : (a b c d : QM31) → QM31Answer
 checkedEvals a b c d =
-    checked a badWord (checked b badWord (checked c badWord (checked d badWord
-    (Value (ofPairs (partialEvals (pairsOf a) (pairsOf b) (pairsOf c) (pairsOf d)))))))
+    checked (words a ++ words b ++ words c ++ words d) Refused
+    (Value (ofPairs (partialEvals (pairsOf a) (pairsOf b) (pairsOf c) (pairsOf d))))
 
 unfoldable pub partialEvalsAnswer : List QM31 → QM31Answer
 partialEvalsAnswer evals = checkedEvals (elementAt evals 0) (elementAt evals 1) (elementAt evals 2) (elementAt evals 3)
 
 -- with an element m of M31
 unfoldable pub addBaseAnswer : QM31 → M31 → QM31Answer
-addBaseAnswer a m = checked a badWord (checkedWord m (Value (ofPairs (quarticWords .add (pairsOf a) (ofBase (m .0))))))
+addBaseAnswer a m = checked (words a ++ M31.words m) Refused (Value (ofPairs (quarticWords .add (pairsOf a) (ofBase (m .0)))))
 
 unfoldable pub subBaseAnswer : QM31 → M31 → QM31Answer
-subBaseAnswer a m = checked a badWord (checkedWord m (Value (ofPairs (sub quarticWords (pairsOf a) (ofBase (m .0))))))
+subBaseAnswer a m = checked (words a ++ M31.words m) Refused (Value (ofPairs (sub quarticWords (pairsOf a) (ofBase (m .0)))))
 
 unfoldable pub mulBaseAnswer : QM31 → M31 → QM31Answer
-mulBaseAnswer a m = checked a badWord (checkedWord m (Value (ofPairs (quarticWords .mul (pairsOf a) (ofBase (m .0))))))
+mulBaseAnswer a m = checked (words a ++ M31.words m) Refused (Value (ofPairs (quarticWords .mul (pairsOf a) (ofBase (m .0)))))
 
 unfoldable pub divBaseAnswer : QM31 → M31 → QM31Answer
 divBaseAnswer a m =
-    checked a badWord (checkedWord m (cond (eqb (m .0) 0) (Refused (Inverse 0))
-    (Value (ofPairs (quarticWords .mul (pairsOf a) (ofBase (invP (m .0))))))))
+    checked (words a ++ M31.words m ++ M31.nonzero m) Refused
+    (Value (ofPairs (quarticWords .mul (pairsOf a) (ofBase (invP (m .0))))))
 
 -- m - a is - a + m
 unfoldable pub baseSubAnswer : M31 → QM31 → QM31Answer
-baseSubAnswer m a = checkedWord m (checked a badWord (Value (ofPairs (quarticWords .add (quarticWords .neg (pairsOf a)) (ofBase (m .0))))))
+baseSubAnswer m a =
+    checked (M31.words m ++ words a) Refused
+    (Value (ofPairs (quarticWords .add (quarticWords .neg (pairsOf a)) (ofBase (m .0)))))
 
 -- m / a is the inverse of a times m
 unfoldable pub baseDivAnswer : M31 → QM31 → QM31Answer
 baseDivAnswer m a =
-    checkedWord m (checked a badWord (nonzero a (Value (ofPairs (quarticWords .mul (quarticInverse (pairsOf a)) (ofBase (m .0)))))))
+    checked (M31.words m ++ words a ++ nonzero a) Refused
+    (Value (ofPairs (quarticWords .mul (quarticInverse (pairsOf a)) (ofBase (m .0)))))

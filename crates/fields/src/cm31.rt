@@ -7,13 +7,15 @@ use crate::answer::BoolAnswer;
 use crate::m31::M31;
 use crate::m31::M31Answer;
 use crate::m31::P;
+use crate::m31::P_SQUARED;
 use crate::m31::inner as m31;
 use crate::refusal::Refusal;
+use crate::wide::U128;
 
 pub mod inner;
 
 // the order of the field, P^2
-pub const P2: u64 = 4611686014132420609;
+pub const P2: u64 = P_SQUARED;
 
 pub struct CM31(pub M31, pub M31);
 
@@ -131,7 +133,7 @@ impl CM31 {
         if !inner::is_reduced(self) {
             return CM31Answer::Refused(Refusal::Word(0));
         }
-        CM31Answer::Value(inner::pow(self, high, low))
+        CM31Answer::Value(inner::pow(self, U128 { high, low }))
     }
 
     pub fn inverse(self) -> CM31Answer
@@ -276,4 +278,11 @@ impl M31 {
         }
         CM31Answer::Value(inner::mul_m31(inner::inverse(rhs), self.0))
     }
+}
+
+// v to the power P - 2.
+pub fn pow2147483645(v: CM31) -> CM31Answer
+    ensures { λ r. ⌜ r ≡ powAnswer v 2147483645 ⌝ }
+{
+    v.pow(0, 2147483645)
 }

@@ -6,12 +6,11 @@ ghost use Rattle.fields.specs.M31.{ofWord, residueOf, partialReduceAnswe
 ghost use Rattle.fields.specs.Squarings.{squaringsOf};
 use crate::answer::BoolAnswer;
 use crate::refusal::Refusal;
+use crate::wide::U128;
 
 pub mod inner;
 
 pub const MODULUS_BITS: u32 = 31;
-
-pub const N_BYTES_FELT: usize = 4;
 
 pub const P: u32 = 2147483647;
 
@@ -21,6 +20,8 @@ const TWO_P: u32 = 4294967294;
 pub const P_SQUARED: u64 = 4611686014132420609;
 
 pub struct M31(pub u32);
+
+pub type BaseField = M31;
 
 pub enum M31Answer {
     Value(M31),
@@ -161,7 +162,7 @@ impl M31 {
         if P <= self.0 {
             return M31Answer::Refused(Refusal::Word(0));
         }
-        M31Answer::Value(M31(inner::pow(self.0, high, low)))
+        M31Answer::Value(M31(inner::pow(self.0, U128 { high, low })))
     }
 
     pub fn inverse(self) -> M31Answer

@@ -12,6 +12,7 @@ use crate::m31::M31;
 use crate::m31::M31Answer;
 use crate::m31::P;
 use crate::refusal::Refusal;
+use crate::wide::U128;
 
 pub mod inner;
 pub mod mixed;
@@ -20,9 +21,6 @@ pub mod mixed;
 pub const P4_HIGH: u64 = 1152921502459363329;
 
 pub const P4_LOW: u64 = 9223372028264841217;
-
-// u^2
-pub const R: CM31 = CM31(M31(2), M31(1));
 
 // words of an element
 pub const SECURE_EXTENSION_DEGREE: usize = 4;
@@ -88,7 +86,7 @@ impl QM31 {
         QM31::from_u32_unchecked(a.0, b.0, c.0, d.0)
     }
 
-    pub fn from_m31_array(array: [M31; 4]) -> QM31Answer
+    pub fn from_m31_array(array: [M31; SECURE_EXTENSION_DEGREE]) -> QM31Answer
         ensures { λ r. ⌜ r ≡ fromArrayAnswer array ⌝ }
     {
         let a = array[0];
@@ -115,7 +113,7 @@ impl QM31 {
     }
 
     // The value of a column of QM31 from those of its four columns of M31: a + bi + cu + diu.
-    pub fn from_partial_evals(evals: [QM31; 4]) -> QM31Answer
+    pub fn from_partial_evals(evals: [QM31; SECURE_EXTENSION_DEGREE]) -> QM31Answer
         ensures { λ r. ⌜ r ≡ partialEvalsAnswer evals ⌝ }
     {
         let a = evals[0];
@@ -248,7 +246,7 @@ impl QM31 {
         if !inner::is_reduced(self) {
             return QM31Answer::Refused(Refusal::Word(0));
         }
-        QM31Answer::Value(inner::pow(self, high, low))
+        QM31Answer::Value(inner::pow(self, U128 { high, low }))
     }
 
     pub fn inverse(self) -> QM31Answer
@@ -304,4 +302,11 @@ impl QM31 {
         }
         M31Answer::Value(M31(first.0.0))
     }
+}
+
+// v to the power P - 2.
+pub fn pow2147483645(v: QM31) -> QM31Answer
+    ensures { λ r. ⌜ r ≡ powAnswer v 2147483645 ⌝ }
+{
+    v.pow(0, 2147483645)
 }

@@ -1,11 +1,12 @@
 // Points over M31 whose words are known to be below P: what the layers above compute with. These are no public calls.
 ghost use mathlib.Core.Path.{_≡_};
-ghost use Prim.Native.Nat.{_+_, _*_, _^_, _<_};
+ghost use Prim.Native.Nat.{_<_};
 ghost use lib.Dec.{eqb};
 ghost use Rattle.algebra.specs.M31.{P};
 ghost use Rattle.algebra.specs.Extension.{conjugate};
 ghost use Rattle.algebra.specs.Circle.{plus, multiple, squares, doubleX, OnCircle};
 ghost use Rattle.algebra.specs.Doubling.{iterate, double};
+ghost use Rattle.fields.specs.Wide.{number};
 ghost use Rattle.fields.specs.Words.{words31};
 ghost use Rattle.fields.specs.CM31.{pairOf};
 ghost use Rattle.fields.specs.CM31 as C;
@@ -19,6 +20,7 @@ use fields::m31::M31;
 use fields::m31::P;
 use fields::m31::inner as m31;
 use fields::signed;
+use fields::wide::U128;
 
 pub fn is_reduced(p: CirclePoint) -> bool
     ensures { λ r. ⌜ r ≡ reduced p ⌝ }
@@ -62,12 +64,12 @@ pub fn double_x(x: u32) -> u32
     m31::sub(m31::add(square, square), 1)
 }
 
-// p added high 2^64 + low times to zero
-pub fn mul(p: CirclePoint, high: u64, low: u64) -> CirclePoint
+// p added n times to zero
+pub fn mul(p: CirclePoint, n: U128) -> CirclePoint
     requires { ⌜ Reduced p ⌝ }
-    ensures { λ r. ⌜ (pointOf r ≡ multiple words31 (high * 2 ^ 64 + low) (pointOf p)) × Reduced r ⌝ }
+    ensures { λ r. ⌜ (pointOf r ≡ multiple words31 (number n) (pointOf p)) × Reduced r ⌝ }
 {
-    point(cm31::pow(complex(p), high, low))
+    point(cm31::pow(complex(p), n))
 }
 
 pub fn mul_signed(p: CirclePoint, off: i64) -> CirclePoint
@@ -75,11 +77,15 @@ pub fn mul_signed(p: CirclePoint, off: i64) -> CirclePoint
     ensures { λ r. ⌜ (pointOf r ≡ signedMultiple words31 off (pointOf p)) × Reduced r ⌝ }
 {
     let parts = signed::parts(off);
+    let size = U128 {
+        high: 0,
+        low: parts.size,
+    };
     if parts.negative {
         let conjugated = conjugate(p);
-        return mul(conjugated, 0, parts.size);
+        return mul(conjugated, size);
     }
-    mul(p, 0, parts.size)
+    mul(p, size)
 }
 
 pub fn repeated_double(p: CirclePoint, n: u32) -> CirclePoint

@@ -1,19 +1,20 @@
 // Points over QM31 whose words are known to be below P: what the layers above compute with. These are no public calls.
 ghost use mathlib.Core.Path.{_≡_};
-ghost use Prim.Native.Nat.{_+_, _*_, _^_, _<_};
+ghost use Prim.Native.Nat.{_%_};
 ghost use Rattle.algebra.specs.Extension.{conjugate};
 ghost use Rattle.algebra.specs.Circle.{plus, multiple, doubleX};
 ghost use Rattle.algebra.specs.Doubling.{iterate, double};
+ghost use Rattle.fields.specs.Wide.{number};
 ghost use Rattle.fields.specs.Words.{complexWords, quarticWords};
 ghost use Rattle.fields.specs.QM31.{pairsOf};
 ghost use Rattle.fields.specs.QM31 as Q;
 ghost use Rattle.circle.specs.Formulas.{antipode, signedMultiple};
 ghost use Rattle.circle.specs.SecurePoint.{pointOf, Reduced, reduced};
 use crate::secure_point::SecureCirclePoint;
-use fields::m31::inner as m31;
 use fields::qm31::QM31;
 use fields::qm31::inner as qm31;
 use fields::signed;
+use fields::wide::U128;
 
 pub fn is_reduced(p: SecureCirclePoint) -> bool
     ensures { λ r. ⌜ r ≡ reduced p ⌝ }
@@ -48,31 +49,29 @@ pub fn double_x(x: QM31) -> QM31
     qm31::sub(qm31::add(square, square), QM31::one())
 }
 
-// p plus q where the bit is 1, else p
-fn add_if(p: SecureCirclePoint, q: SecureCirclePoint, bit: u64) -> SecureCirclePoint
-    requires { ⌜ (Reduced p) × (Reduced q) × (bit < 2) ⌝ }
-    ensures { λ r. ⌜ (pointOf r ≡ plus quarticWords (pointOf p) (multiple quarticWords bit (pointOf q))) × Reduced r ⌝ }
+// p plus q where n is odd, else p
+fn add_if_odd(p: SecureCirclePoint, q: SecureCirclePoint, n: U128) -> SecureCirclePoint
+    requires { ⌜ (Reduced p) × (Reduced q) ⌝ }
+    ensures { λ r. ⌜ (pointOf r ≡ plus quarticWords (pointOf p) (multiple quarticWords (number n % 2) (pointOf q))) × Reduced r ⌝ }
 {
-    if bit == 1 {
+    if n.is_odd() {
         return add(p, q);
     }
     p
 }
 
-// p added high 2^64 + low times to zero, by double-and-add
-pub fn mul(p: SecureCirclePoint, high: u64, low: u64) -> SecureCirclePoint
+// p added n times to zero, by double-and-add
+pub fn mul(p: SecureCirclePoint, n: U128) -> SecureCirclePoint
     requires { ⌜ Reduced p ⌝ }
-    ensures { λ r. ⌜ (pointOf r ≡ multiple quarticWords (high * 2 ^ 64 + low) (pointOf p)) × Reduced r ⌝ }
+    ensures { λ r. ⌜ (pointOf r ≡ multiple quarticWords (number n) (pointOf p)) × Reduced r ⌝ }
 {
     let mut res = SecureCirclePoint::zero();
     let mut cur = p;
-    let mut upper = high;
-    let mut lower = low;
-    while m31::more(upper, lower) {
-        res = add_if(res, cur, lower % 2);
+    let mut left = n;
+    while !left.is_zero() {
+        res = add_if_odd(res, cur, left);
         cur = add(cur, cur);
-        lower = lower / 2 + (upper % 2) * 0x8000_0000_0000_0000;
-        upper = upper / 2;
+        left = left.half();
     }
     res
 }
@@ -82,11 +81,15 @@ pub fn mul_signed(p: SecureCirclePoint, off: i64) -> SecureCirclePoint
     ensures { λ r. ⌜ (pointOf r ≡ signedMultiple quarticWords off (pointOf p)) × Reduced r ⌝ }
 {
     let parts = signed::parts(off);
+    let size = U128 {
+        high: 0,
+        low: parts.size,
+    };
     if parts.negative {
         let conjugated = conjugate(p);
-        return mul(conjugated, 0, parts.size);
+        return mul(conjugated, size);
     }
-    mul(p, 0, parts.size)
+    mul(p, size)
 }
 
 pub fn repeated_double(p: SecureCirclePoint, n: u32) -> SecureCirclePoint

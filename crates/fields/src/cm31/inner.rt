@@ -1,18 +1,20 @@
 // CM31 on words already known to be below P: what QM31 and the layers above compute with. These are no public calls.
 ghost use mathlib.Core.Path.{_≡_};
-ghost use Prim.Native.Nat.{_+_, _*_, _^_, _<_};
+ghost use Prim.Native.Nat.{_%_, _<_};
 ghost use Rattle.algebra.specs.M31.{P};
 ghost use Rattle.algebra.specs.Ring.{sub};
 ghost use Rattle.algebra.specs.Power.{pow};
 ghost use Rattle.algebra.specs.Extension.{conjugate, embed};
 ghost use Rattle.algebra.specs.Tower.{twoPlusI};
 ghost use Rattle.fields.specs.Words.{words31, complexWords, complexInverse};
+ghost use Rattle.fields.specs.Wide.{number};
 ghost use Rattle.fields.specs.CM31.{pairOf, Reduced, reduced, isZero};
 use crate::cm31::CM31;
+use crate::cm31::P2;
 use crate::m31::M31;
 use crate::m31::P;
-use crate::m31::P_SQUARED;
 use crate::m31::inner as m31;
+use crate::wide::U128;
 
 pub fn is_reduced(a: CM31) -> bool
     ensures { λ r. ⌜ r ≡ reduced a ⌝ }
@@ -62,7 +64,7 @@ pub fn mul(a: CM31, b: CM31) -> CM31
     let bd = m31::product(a.1.0, b.1.0);
     let ad = m31::product(a.0.0, b.1.0);
     let bc = m31::product(a.1.0, b.0.0);
-    let re = m31::reduce_two(ac + (P_SQUARED - bd));
+    let re = m31::reduce_two(ac + (P2 - bd));
     let im = m31::reduce_two(ad + bc);
     CM31(M31(re), M31(im))
 }
@@ -105,31 +107,29 @@ pub fn mul_m31(a: CM31, b: u32) -> CM31
     CM31(M31(m31::mul(a.0.0, b)), M31(m31::mul(a.1.0, b)))
 }
 
-// a times b where the bit is 1, else a
-fn mul_if(a: CM31, b: CM31, bit: u64) -> CM31
-    requires { ⌜ (Reduced a) × (Reduced b) × (bit < 2) ⌝ }
-    ensures { λ r. ⌜ (pairOf r ≡ complexWords .mul (pairOf a) (pow complexWords (pairOf b) bit)) × Reduced r ⌝ }
+// a times b where n is odd, else a
+fn mul_if_odd(a: CM31, b: CM31, n: U128) -> CM31
+    requires { ⌜ (Reduced a) × (Reduced b) ⌝ }
+    ensures { λ r. ⌜ (pairOf r ≡ complexWords .mul (pairOf a) (pow complexWords (pairOf b) (number n % 2))) × Reduced r ⌝ }
 {
-    if bit == 1 {
+    if n.is_odd() {
         return mul(a, b);
     }
     a
 }
 
-// a to the power high 2^64 + low, by square-and-multiply.
-pub fn pow(a: CM31, high: u64, low: u64) -> CM31
+// a to the power n, by square-and-multiply.
+pub fn pow(a: CM31, n: U128) -> CM31
     requires { ⌜ Reduced a ⌝ }
-    ensures { λ r. ⌜ (pairOf r ≡ pow complexWords (pairOf a) (high * 2 ^ 64 + low)) × Reduced r ⌝ }
+    ensures { λ r. ⌜ (pairOf r ≡ pow complexWords (pairOf a) (number n)) × Reduced r ⌝ }
 {
     let mut res = CM31(M31(1), M31(0));
     let mut base = a;
-    let mut upper = high;
-    let mut lower = low;
-    while m31::more(upper, lower) {
-        res = mul_if(res, base, lower % 2);
+    let mut left = n;
+    while !left.is_zero() {
+        res = mul_if_odd(res, base, left);
         base = mul(base, base);
-        lower = lower / 2 + (upper % 2) * 0x8000_0000_0000_0000;
-        upper = upper / 2;
+        left = left.half();
     }
     res
 }

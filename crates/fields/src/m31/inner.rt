@@ -1,15 +1,17 @@
 // M31 on words already known to be below P: what the layers above compute with. These are no public calls.
 ghost use mathlib.Core.Path.{_≡_};
 ghost use Prim.Native.Nat.{_+_, _*_, _/_, _%_, _^_, _≤_, _<_};
-ghost use lib.Dec.{ltb};
 ghost use Rattle.algebra.specs.M31.{P};
 ghost use Rattle.fields.specs.Words.{addP, subP, negP, mulP, powP};
+ghost use Rattle.fields.specs.Wide.{number};
+use crate::m31::MODULUS_BITS;
 use crate::m31::P;
+use crate::wide::U128;
 
 // 2^31 is 1 modulo P, so the bits from 31 on are added to those below.
-const TWO_POW_31: u32 = 2147483648;
+const TWO_POW_31: u32 = 1 << MODULUS_BITS;
 
-const TWO_POW_31_U64: u64 = 2147483648;
+const TWO_POW_31_U64: u64 = 1 << MODULUS_BITS;
 
 const TWO_POW_32: u64 = 4294967296;
 
@@ -172,41 +174,29 @@ fn below_p(sum: u32) -> u32
     sum - P
 }
 
-// the exponent high 2^64 + low is not 0
-pub fn more(high: u64, low: u64) -> bool
-    ensures { λ r. ⌜ r ≡ ltb 0 (high * 2 ^ 64 + low) ⌝ }
+// a times b where n is odd, else a
+fn mul_if_odd(a: u32, b: u32, n: U128) -> u32
+    requires { ⌜ (a < P) × (b < P) ⌝ }
+    ensures { λ r. ⌜ r ≡ mulP a (powP b (number n % 2)) ⌝ }
 {
-    if 0 < high {
-        return true;
-    }
-    0 < low
-}
-
-// a times b where the bit is 1, else a
-fn mul_if(a: u32, b: u32, bit: u64) -> u32
-    requires { ⌜ (a < P) × (b < P) × (bit < 2) ⌝ }
-    ensures { λ r. ⌜ r ≡ mulP a (powP b bit) ⌝ }
-{
-    if bit == 1 {
+    if n.is_odd() {
         return mul(a, b);
     }
     a
 }
 
-// a to the power high 2^64 + low, by square-and-multiply.
-pub fn pow(a: u32, high: u64, low: u64) -> u32
+// a to the power n, by square-and-multiply.
+pub fn pow(a: u32, n: U128) -> u32
     requires { ⌜ a < P ⌝ }
-    ensures { λ r. ⌜ r ≡ powP a (high * 2 ^ 64 + low) ⌝ }
+    ensures { λ r. ⌜ r ≡ powP a (number n) ⌝ }
 {
     let mut res: u32 = 1;
     let mut base = a;
-    let mut upper = high;
-    let mut lower = low;
-    while more(upper, lower) {
-        res = mul_if(res, base, lower % 2);
+    let mut left = n;
+    while !left.is_zero() {
+        res = mul_if_odd(res, base, left);
         base = mul(base, base);
-        lower = lower / 2 + (upper % 2) * 0x8000_0000_0000_0000;
-        upper = upper / 2;
+        left = left.half();
     }
     res
 }

@@ -1,21 +1,23 @@
 // QM31 on words already known to be below P: what the layers above compute with. These are no public calls.
 ghost use mathlib.Core.Path.{_≡_};
-ghost use Prim.Native.Nat.{_+_, _*_, _^_, _<_};
+ghost use Prim.Native.Nat.{_%_, _<_};
 ghost use Rattle.algebra.specs.M31.{P};
 ghost use Rattle.algebra.specs.Ring.{sub};
 ghost use Rattle.algebra.specs.Power.{pow};
 ghost use Rattle.algebra.specs.Extension.{conjugate, embed};
 ghost use Rattle.algebra.specs.Tower.{twoPlusI};
 ghost use Rattle.fields.specs.Words.{words31, complexWords, quarticWords, quarticInverse};
+ghost use Rattle.fields.specs.Wide.{number};
 ghost use Rattle.fields.specs.CM31.{pairOf};
 ghost use Rattle.fields.specs.CM31 as C;
-ghost use Rattle.fields.specs.QM31.{pairsOf, ofBase, partialEvals, Reduced, reduced, isZero};
+ghost use Rattle.fields.specs.QM31.{AllReduced, pairsOf, ofBase, partialEvals, Reduced, reduced, isZero};
 use crate::cm31::CM31;
+use crate::cm31::P2;
 use crate::cm31::inner as cm31;
 use crate::m31::M31;
-use crate::m31::P_SQUARED;
 use crate::m31::inner as m31;
 use crate::qm31::QM31;
+use crate::wide::U128;
 
 const P_U64: u64 = 2147483647;
 
@@ -88,7 +90,7 @@ pub fn mul(a: QM31, b: QM31) -> QM31
 
 // ac + (2 + i)bd
 fn mul_first(a: CM31, b: CM31, c: CM31, d: CM31) -> CM31
-    requires { ⌜ (C.Reduced a) × (C.Reduced b) × (C.Reduced c) × (C.Reduced d) ⌝ }
+    requires { ⌜ C.AllReduced a b c d ⌝ }
     ensures { λ r. ⌜ (pairOf r ≡ complexWords .add (complexWords .mul (pairOf a) (pairOf c)) (complexWords .mul (twoPlusI words31) (complexWords .mul (pairOf b) (pairOf d)))) × C.Reduced r ⌝ }
 {
     let bd = cm31::mul(b, d);
@@ -98,14 +100,14 @@ fn mul_first(a: CM31, b: CM31, c: CM31, d: CM31) -> CM31
     let right = m31::product(a.1.0, c.0.0);
     let bd_re = bd.0.0 as u64;
     let bd_im = bd.1.0 as u64;
-    let re = m31::reduce_wide(plus + (P_SQUARED - minus) + 2 * bd_re + (P_U64 - bd_im));
+    let re = m31::reduce_wide(plus + (P2 - minus) + 2 * bd_re + (P_U64 - bd_im));
     let im = m31::reduce_wide(left + right + bd_re + 2 * bd_im);
     CM31(M31(re), M31(im))
 }
 
 // ad + bc
 fn mul_second(a: CM31, b: CM31, c: CM31, d: CM31) -> CM31
-    requires { ⌜ (C.Reduced a) × (C.Reduced b) × (C.Reduced c) × (C.Reduced d) ⌝ }
+    requires { ⌜ C.AllReduced a b c d ⌝ }
     ensures { λ r. ⌜ (pairOf r ≡ complexWords .add (complexWords .mul (pairOf a) (pairOf d)) (complexWords .mul (pairOf b) (pairOf c))) × C.Reduced r ⌝ }
 {
     let plus = m31::product(a.0.0, d.0.0) + m31::product(b.0.0, c.0.0);
@@ -162,31 +164,29 @@ pub fn mul_m31(a: QM31, b: u32) -> QM31
     QM31(cm31::mul_m31(a0, b), cm31::mul_m31(a1, b))
 }
 
-// a times b where the bit is 1, else a
-fn mul_if(a: QM31, b: QM31, bit: u64) -> QM31
-    requires { ⌜ (Reduced a) × (Reduced b) × (bit < 2) ⌝ }
-    ensures { λ r. ⌜ (pairsOf r ≡ quarticWords .mul (pairsOf a) (pow quarticWords (pairsOf b) bit)) × Reduced r ⌝ }
+// a times b where n is odd, else a
+fn mul_if_odd(a: QM31, b: QM31, n: U128) -> QM31
+    requires { ⌜ (Reduced a) × (Reduced b) ⌝ }
+    ensures { λ r. ⌜ (pairsOf r ≡ quarticWords .mul (pairsOf a) (pow quarticWords (pairsOf b) (number n % 2))) × Reduced r ⌝ }
 {
-    if bit == 1 {
+    if n.is_odd() {
         return mul(a, b);
     }
     a
 }
 
-// a to the power high 2^64 + low, by square-and-multiply.
-pub fn pow(a: QM31, high: u64, low: u64) -> QM31
+// a to the power n, by square-and-multiply.
+pub fn pow(a: QM31, n: U128) -> QM31
     requires { ⌜ Reduced a ⌝ }
-    ensures { λ r. ⌜ (pairsOf r ≡ pow quarticWords (pairsOf a) (high * 2 ^ 64 + low)) × Reduced r ⌝ }
+    ensures { λ r. ⌜ (pairsOf r ≡ pow quarticWords (pairsOf a) (number n)) × Reduced r ⌝ }
 {
     let mut res = QM31(CM31(M31(1), M31(0)), CM31(M31(0), M31(0)));
     let mut base = a;
-    let mut upper = high;
-    let mut lower = low;
-    while m31::more(upper, lower) {
-        res = mul_if(res, base, lower % 2);
+    let mut left = n;
+    while !left.is_zero() {
+        res = mul_if_odd(res, base, left);
         base = mul(base, base);
-        lower = lower / 2 + (upper % 2) * 0x8000_0000_0000_0000;
-        upper = upper / 2;
+        left = left.half();
     }
     res
 }
@@ -206,7 +206,7 @@ pub fn inverse(a: QM31) -> QM31
 
 // a + bi + cu + diu
 pub fn from_partial_evals(a: QM31, b: QM31, c: QM31, d: QM31) -> QM31
-    requires { ⌜ (Reduced a) × (Reduced b) × (Reduced c) × (Reduced d) ⌝ }
+    requires { ⌜ AllReduced a b c d ⌝ }
     ensures { λ r. ⌜ (pairsOf r ≡ partialEvals (pairsOf a) (pairsOf b) (pairsOf c) (pairsOf d)) × Reduced r ⌝ }
 {
     let zero = CM31(M31(0), M31(0));

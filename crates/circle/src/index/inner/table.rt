@@ -1,9 +1,10 @@
 // The constant table of points by windows of digits: window w, digit d has the point (d 256^w) G.
 ghost use mathlib.Core.Path.{_≡_};
-ghost use Prim.Native.Nat.{_*_, _^_, _<_};
+ghost use Prim.Native.Nat.{_^_, _<_};
 ghost use Rattle.circle.specs.Point.{pointOf, Reduced};
 ghost use Rattle.circle.specs.Index.{indexPoint};
-ghost use Rattle.circle.specs.Table.{windows, digits, entry};
+ghost use Rattle.circle.specs.Table.{InTable, entry};
+use crate::index::CirclePointIndex;
 use crate::index::inner::table::rows::POINTS;
 use crate::point::CirclePoint;
 use crate::point::inner as point;
@@ -18,7 +19,7 @@ const DIGITS: usize = 256;
 
 // The point of a digit of a window.
 fn entry(window: usize, digit: usize) -> CirclePoint
-    requires { ⌜ (window < windows) × (digit < digits) × (digit * digits ^ window < 2 ^ 31) ⌝ }
+    requires { ⌜ InTable window digit ⌝ }
     ensures { λ r. ⌜ (pointOf r ≡ entry window digit) × Reduced r ⌝ }
 {
     let at = DIGITS * window + digit;
@@ -31,12 +32,12 @@ fn entry(window: usize, digit: usize) -> CirclePoint
 }
 
 // The point of an index below 2^31: the sum of the points of its digits.
-pub fn look_up(k: u64) -> CirclePoint
-    requires { ⌜ k < 2 ^ 31 ⌝ }
-    ensures { λ r. ⌜ (pointOf r ≡ indexPoint k) × Reduced r ⌝ }
+pub fn look_up(k: CirclePointIndex) -> CirclePoint
+    requires { ⌜ k .0 < 2 ^ 31 ⌝ }
+    ensures { λ r. ⌜ (pointOf r ≡ indexPoint (k .0)) × Reduced r ⌝ }
 {
     let mut sum = CirclePoint::zero();
-    let mut rest = k as usize;
+    let mut rest = k.0 as usize;
     let mut window: usize = 0;
     while window < WINDOWS {
         sum = point::add(sum, entry(window, rest % DIGITS));

@@ -8,7 +8,7 @@ use borrow.Author.Tests.{ltb-true, lt-leb}
 use Rattle.algebra.specs.M31.{P}
 use Rattle.fields.specs.Columns.{isBad}
 use Rattle.fields.specs.SearchLaws.{first-none}
-use Rattle.fields.proofs.Seen.{Seen, seen-none, seen-next, or-above}
+use Rattle.fields.specs.Seen.{Seen, seen-none, seen-next, or-above}
 use Rattle.fields.proofs.columns.all_below_p.Statement.{statement}
 use Rattle.fields.proofs.columns.all_below_p.Tie as tie
 

@@ -1,6 +1,6 @@
 use borrow.Author.Needs.{needs}
 use Rattle.fields.specs.M31.{powAnswer}
-use Rattle.fields.proofs.Answers.{answers}
+use Rattle.fields.specs.AnswerLaws.{answers}
 use Rattle.fields.proofs.m31.pow2147483645.Statement.{statement}
 use Rattle.fields.proofs.m31.pow2147483645.Tie as tie
 

@@ -4,7 +4,7 @@ use borrow.Author.Needs.{needs}
 use Rattle.fields.specs.Words.{powP}
 use Rattle.fields.specs.M31.{sqnAnswer}
 use Rattle.fields.specs.Squarings.{squarings-same}
-use Rattle.fields.proofs.Answers.{answers}
+use Rattle.fields.specs.AnswerLaws.{answers}
 use Rattle.fields.proofs.m31.sqn.Statement.{statement}
 use Rattle.fields.proofs.m31.sqn.Tie as tie
 

@@ -1,5 +1,5 @@
 use borrow.Author.Needs.{needs}
-use Rattle.fields.proofs.Answers.{answers}
+use Rattle.fields.specs.AnswerLaws.{answers}
 use Rattle.fields.proofs.m31.squarings.Statement.{statement}
 use Rattle.fields.proofs.m31.squarings.Tie as tie
 

@@ -1,5 +1,5 @@
 use borrow.Author.Needs.{needs}
-use Rattle.fields.proofs.Answers.{answers, quartics}
+use Rattle.fields.specs.AnswerLaws.{answers, quartics}
 use Rattle.fields.proofs.qm31.checked_evals.Statement.{statement}
 use Rattle.fields.proofs.qm31.checked_evals.Tie as tie
 

@@ -1,27 +1,35 @@
 use borrow.Author.Needs.{needs}
+use Rattle.fields.specs.AnswerLaws.{answers}
 use Rattle.circle.specs.Index.{addAnswer}
-use Rattle.fields.proofs.Answers.{answers}
-use Rattle.circle.proofs.Answers.{indices}
+use Rattle.circle.specs.AnswerLaws.{index-fits, indices}
 use Rattle.circle.proofs.index.CirclePointIndex.add.Statement.{statement}
 use Rattle.circle.proofs.index.CirclePointIndex.add.Tie as tie
+
+is-index-requires : tie.Need-is-index-requires
+is-index-requires c κs = search needs
 
 returns : tie.Need-returns
 unfolding addAnswer
 returns c = search (answers, indices, needs)
 
+is-index-requires-2 : tie.Need-is-index-requires-2
+is-index-requires-2 c κs = search needs
+
 returns-2 : tie.Need-returns-2
 unfolding addAnswer
 returns-2 c = search (answers, indices, needs)
 
-add-reduce : tie.Need-add-reduce
-add-reduce c = search needs
-
-reduce-requires : tie.Need-reduce-requires
-reduce-requires c κs = search needs
+add-requires : tie.Need-add-requires
+add-requires c κs = (
+  index-fits _ _ (c .before .before .before .is-index .ensures) (c .before .before .if1 .left),
+  index-fits _ _ (c .before .is-index2 .ensures) (c .if2 .left),
+)
 
 returns-3 : tie.Need-returns-3
 unfolding addAnswer
 returns-3 c = search (answers, indices, needs)
 
 pub add-spec : {M : Type 1} → statement M
-add-spec = tie.close (tie.spec returns returns-2 add-reduce reduce-requires returns-3)
+add-spec =
+    tie.close
+    (tie.spec is-index-requires returns is-index-requires-2 returns-2 add-requires returns-3)

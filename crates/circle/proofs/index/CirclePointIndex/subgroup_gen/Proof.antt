@@ -1,7 +1,7 @@
 use borrow.Author.Needs.{needs}
+use Rattle.fields.specs.AnswerLaws.{answers}
 use Rattle.circle.specs.Index.{subgroupGenAnswer}
-use Rattle.fields.proofs.Answers.{answers}
-use Rattle.circle.proofs.Answers.{indices}
+use Rattle.circle.specs.AnswerLaws.{indices}
 use Rattle.circle.proofs.index.CirclePointIndex.subgroup_gen.Statement.{statement}
 use Rattle.circle.proofs.index.CirclePointIndex.subgroup_gen.Tie as tie
 

@@ -13,7 +13,10 @@ look-up-requires : tie.Need-look-up-requires
 look-up-requires c κs = omega (arith, c .reduce .ensures)
 
 returns : tie.Need-returns
-returns c = (c .look-up .ensures .0 ∙ ap indexPoint (c .before .reduce .ensures) ∙ index-reduce (c .before .before .args .k), c .look-up .ensures .1)
+returns c = (
+  c .look-up .ensures .0 ∙ ap indexPoint (c .before .reduce .ensures) ∙ index-reduce (c .before .before .args .k .0),
+  c .look-up .ensures .1,
+)
 
 pub to-point-spec : {M : Type 1} → statement M
 to-point-spec = tie.close (tie.spec reduce-requires look-up-requires returns)

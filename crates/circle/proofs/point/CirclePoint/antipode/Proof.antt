@@ -1,7 +1,7 @@
 use borrow.Author.Needs.{needs}
 use Rattle.circle.specs.Point.{antipodeAnswer}
-use Rattle.fields.proofs.Answers.{answers}
-use Rattle.circle.proofs.Answers.{points}
+use Rattle.fields.specs.AnswerLaws.{answers}
+use Rattle.circle.specs.AnswerLaws.{points}
 use Rattle.circle.proofs.point.CirclePoint.antipode.Statement.{statement}
 use Rattle.circle.proofs.point.CirclePoint.antipode.Tie as tie
 

@@ -2,8 +2,8 @@ use borrow.Author.Tests.{eqb-true, not-false}
 use mathlib.Core.Path.{_∙_, sym}
 use borrow.Author.Needs.{needs}
 use Rattle.circle.specs.Point.{logOrderAnswer}
-use Rattle.fields.proofs.Answers.{answers}
-use Rattle.circle.proofs.Answers.{points}
+use Rattle.fields.specs.AnswerLaws.{answers}
+use Rattle.circle.specs.AnswerLaws.{points}
 use Rattle.circle.proofs.point.CirclePoint.log_order.Statement.{statement}
 use Rattle.circle.proofs.point.CirclePoint.log_order.Tie as tie
 

@@ -1,7 +1,7 @@
 use borrow.Author.Needs.{needs}
 use Rattle.circle.specs.Point.{mulAnswer}
-use Rattle.fields.proofs.Answers.{answers}
-use Rattle.circle.proofs.Answers.{points}
+use Rattle.fields.specs.AnswerLaws.{answers}
+use Rattle.circle.specs.AnswerLaws.{points}
 use Rattle.circle.proofs.point.CirclePoint.mul.Statement.{statement}
 use Rattle.circle.proofs.point.CirclePoint.mul.Tie as tie
 

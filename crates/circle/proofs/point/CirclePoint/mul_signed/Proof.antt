@@ -6,8 +6,8 @@ use Rattle.circle.specs.Formulas.{signedMultiple, least}
 use Rattle.circle.specs.Point.{pointOf}
 use borrow.Author.Needs.{needs}
 use Rattle.circle.specs.Point.{mulSignedAnswer}
-use Rattle.fields.proofs.Answers.{answers}
-use Rattle.circle.proofs.Answers.{points}
+use Rattle.fields.specs.AnswerLaws.{answers}
+use Rattle.circle.specs.AnswerLaws.{points}
 use Rattle.circle.proofs.point.CirclePoint.mul_signed.Statement.{statement}
 use Rattle.circle.proofs.point.CirclePoint.mul_signed.Tie as tie
 

@@ -4,8 +4,8 @@ use Rattle.fields.specs.Words.{words31}
 use Rattle.circle.specs.Point.{pointOf}
 use borrow.Author.Needs.{needs}
 use Rattle.circle.specs.Point.{subAnswer}
-use Rattle.fields.proofs.Answers.{answers}
-use Rattle.circle.proofs.Answers.{points}
+use Rattle.fields.specs.AnswerLaws.{answers}
+use Rattle.circle.specs.AnswerLaws.{points}
 use Rattle.circle.proofs.point.CirclePoint.sub.Statement.{statement}
 use Rattle.circle.proofs.point.CirclePoint.sub.Tie as tie
 

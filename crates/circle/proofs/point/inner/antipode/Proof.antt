@@ -1,4 +1,4 @@
-use Rattle.fields.proofs.Pairs.{pair}
+use Rattle.fields.specs.PairLaws.{pair}
 use borrow.Author.Needs.{needs}
 use Rattle.circle.proofs.point.inner.antipode.Statement.{statement}
 use Rattle.circle.proofs.point.inner.antipode.Tie as tie

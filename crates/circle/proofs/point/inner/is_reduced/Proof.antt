@@ -1,6 +1,6 @@
 use borrow.Author.Tests.{le-ltb, lt-ltb}
 use Rattle.algebra.specs.M31.{P}
-use Rattle.fields.proofs.Answers.{first-fails, first-holds}
+use Rattle.fields.specs.AnswerLaws.{first-fails, first-holds}
 use borrow.Author.Needs.{needs}
 use Rattle.circle.proofs.point.inner.is_reduced.Statement.{statement}
 use Rattle.circle.proofs.point.inner.is_reduced.Tie as tie

@@ -1,7 +1,8 @@
-use Prim.Native.Nat.{ℕ, _+_, _*_, _^_}
+use Prim.Native.Nat.{ℕ}
 use mathlib.Core.Path.{_∙_, ap}
 use Rattle.algebra.specs.Power.{pow}
 use Rattle.algebra.specs.M31.{m31}
+use Rattle.fields.specs.Wide.{number}
 use Rattle.fields.specs.Words.{words31, complexWords}
 use Rattle.fields.specs.Inverse.{m31-representation}
 use Rattle.circle.specs.Point.{pointOf}
@@ -21,7 +22,7 @@ point-requires c κs = search needs
 
 returns : tie.Need-returns
 returns c =
-    let n : ℕ = c .before .before .before .args .high * 2 ^ 64 + c .before .before .before .args .low in (
+    let n = number (c .before .before .before .args .n) in (
       c .point .ensures .0 ∙ c .before .pow .ensures .0 ∙ ap (λ (z : ℕ × ℕ). pow complexWords z n) (c .before .before .complex .ensures .0)
           ∙ power-multiple words31 m31 m31-representation n (pointOf (c .before .before .before .args .p)),
       c .point .ensures .1,

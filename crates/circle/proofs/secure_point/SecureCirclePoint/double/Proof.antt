@@ -1,7 +1,7 @@
 use borrow.Author.Needs.{needs}
 use Rattle.circle.specs.SecurePoint.{doubleAnswer}
-use Rattle.fields.proofs.Answers.{answers}
-use Rattle.circle.proofs.Answers.{securePoints}
+use Rattle.fields.specs.AnswerLaws.{answers}
+use Rattle.circle.specs.AnswerLaws.{securePoints}
 use Rattle.circle.proofs.secure_point.SecureCirclePoint.double.Statement.{statement}
 use Rattle.circle.proofs.secure_point.SecureCirclePoint.double.Tie as tie
 

@@ -1,8 +1,8 @@
-use Rattle.fields.proofs.Answers.{quartics}
+use Rattle.fields.specs.AnswerLaws.{quartics}
 use borrow.Author.Needs.{needs}
 use Rattle.circle.specs.SecurePoint.{doubleXAnswer}
-use Rattle.fields.proofs.Answers.{answers}
-use Rattle.circle.proofs.Answers.{securePoints}
+use Rattle.fields.specs.AnswerLaws.{answers}
+use Rattle.circle.specs.AnswerLaws.{securePoints}
 use Rattle.circle.proofs.secure_point.SecureCirclePoint.double_x.Statement.{statement}
 use Rattle.circle.proofs.secure_point.SecureCirclePoint.double_x.Tie as tie
 

@@ -6,8 +6,8 @@ use Rattle.circle.specs.Formulas.{signedMultiple, least}
 use Rattle.circle.specs.SecurePoint.{pointOf}
 use borrow.Author.Needs.{needs}
 use Rattle.circle.specs.SecurePoint.{mulSignedAnswer}
-use Rattle.fields.proofs.Answers.{answers}
-use Rattle.circle.proofs.Answers.{securePoints}
+use Rattle.fields.specs.AnswerLaws.{answers}
+use Rattle.circle.specs.AnswerLaws.{securePoints}
 use Rattle.circle.proofs.secure_point.SecureCirclePoint.mul_signed.Statement.{statement}
 use Rattle.circle.proofs.secure_point.SecureCirclePoint.mul_signed.Tie as tie
 

@@ -4,8 +4,8 @@ use Rattle.fields.specs.Words.{quarticWords}
 use Rattle.circle.specs.SecurePoint.{pointOf}
 use borrow.Author.Needs.{needs}
 use Rattle.circle.specs.SecurePoint.{subAnswer}
-use Rattle.fields.proofs.Answers.{answers}
-use Rattle.circle.proofs.Answers.{securePoints}
+use Rattle.fields.specs.AnswerLaws.{answers}
+use Rattle.circle.specs.AnswerLaws.{securePoints}
 use Rattle.circle.proofs.secure_point.SecureCirclePoint.sub.Statement.{statement}
 use Rattle.circle.proofs.secure_point.SecureCirclePoint.sub.Tie as tie
 

@@ -1,7 +1,7 @@
 use mathlib.Core.Path.{_∙_, ap₂}
 use Rattle.algebra.specs.Ring.{sub}
 use Rattle.fields.specs.Words.{quarticWords}
-use Rattle.fields.proofs.Pairs.{pair}
+use Rattle.fields.specs.PairLaws.{pair}
 use borrow.Author.Needs.{needs}
 use Rattle.circle.proofs.secure_point.inner.add.Statement.{statement}
 use Rattle.circle.proofs.secure_point.inner.add.Tie as tie

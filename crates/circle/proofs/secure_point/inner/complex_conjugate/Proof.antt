@@ -1,4 +1,4 @@
-use Rattle.fields.proofs.Pairs.{pair}
+use Rattle.fields.specs.PairLaws.{pair}
 use borrow.Author.Needs.{needs}
 use Rattle.circle.proofs.secure_point.inner.complex_conjugate.Statement.{statement}
 use Rattle.circle.proofs.secure_point.inner.complex_conjugate.Tie as tie

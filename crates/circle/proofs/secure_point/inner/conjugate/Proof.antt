@@ -1,5 +1,5 @@
 use mathlib.Core.Path.{refl}
-use Rattle.fields.proofs.Pairs.{pair}
+use Rattle.fields.specs.PairLaws.{pair}
 use borrow.Author.Needs.{needs}
 use Rattle.circle.proofs.secure_point.inner.conjugate.Statement.{statement}
 use Rattle.circle.proofs.secure_point.inner.conjugate.Tie as tie

@@ -1,6 +1,6 @@
 use mathlib.Core.Path.{_∙_, sym}
 use borrow.Author.Tests.{not-true, not-false}
-use Rattle.fields.proofs.Answers.{first-fails, first-holds}
+use Rattle.fields.specs.AnswerLaws.{first-fails, first-holds}
 use borrow.Author.Needs.{needs}
 use Rattle.circle.proofs.secure_point.inner.is_reduced.Statement.{statement}
 use Rattle.circle.proofs.secure_point.inner.is_reduced.Tie as tie

@@ -1,6 +1,6 @@
 use borrow.Author.Needs.{needs}
 use Rattle.fields.specs.CM31.{conjugateAnswer}
-use Rattle.fields.proofs.Answers.{answers, complexes}
+use Rattle.fields.specs.AnswerLaws.{answers, complexes}
 use Rattle.fields.proofs.cm31.CM31.complex_conjugate.Statement.{statement}
 use Rattle.fields.proofs.cm31.CM31.complex_conjugate.Tie as tie
 

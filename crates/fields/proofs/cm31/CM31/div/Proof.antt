@@ -2,7 +2,7 @@ use mathlib.Core.Path.{_∙_, ap}
 use Rattle.fields.specs.Words.{complexWords}
 use borrow.Author.Needs.{needs}
 use Rattle.fields.specs.CM31.{divAnswer, pairOf}
-use Rattle.fields.proofs.Answers.{answers, complexes}
+use Rattle.fields.specs.AnswerLaws.{answers, complexes}
 use Rattle.fields.proofs.cm31.CM31.div.Statement.{statement}
 use Rattle.fields.proofs.cm31.CM31.div.Tie as tie
 

@@ -4,7 +4,7 @@ use Rattle.fields.specs.Words.{words31, complexWords}
 use Rattle.algebra.specs.Extension.{embed}
 use borrow.Author.Needs.{needs}
 use Rattle.fields.specs.CM31.{divBaseAnswer, pairOf}
-use Rattle.fields.proofs.Answers.{answers, complexes}
+use Rattle.fields.specs.AnswerLaws.{answers, complexes}
 use Rattle.fields.proofs.cm31.CM31.div_m31.Statement.{statement}
 use Rattle.fields.proofs.cm31.CM31.div_m31.Tie as tie
 

@@ -1,6 +1,6 @@
 use borrow.Author.Needs.{needs}
 use Rattle.fields.specs.CM31.{fromBaseAnswer}
-use Rattle.fields.proofs.Answers.{answers, complexes}
+use Rattle.fields.specs.AnswerLaws.{answers, complexes}
 use Rattle.fields.proofs.cm31.CM31.from_base.Statement.{statement}
 use Rattle.fields.proofs.cm31.CM31.from_base.Tie as tie
 

@@ -1,6 +1,6 @@
 use borrow.Author.Needs.{needs}
 use Rattle.fields.specs.CM31.{isZeroAnswer}
-use Rattle.fields.proofs.Answers.{answers, complexes}
+use Rattle.fields.specs.AnswerLaws.{answers, complexes}
 use Rattle.fields.proofs.cm31.CM31.is_zero.Statement.{statement}
 use Rattle.fields.proofs.cm31.CM31.is_zero.Tie as tie
 

@@ -1,5 +1,5 @@
 use borrow.Author.Needs.{needs}
-use Rattle.fields.proofs.Pairs.{inverse}
+use Rattle.fields.specs.PairLaws.{inverse}
 use Rattle.fields.specs.CM31.{pairOf}
 use Rattle.fields.proofs.cm31.inner.inverse.Statement.{statement}
 use Rattle.fields.proofs.cm31.inner.inverse.Tie as tie

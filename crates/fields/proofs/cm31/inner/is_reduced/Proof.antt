@@ -1,7 +1,7 @@
 use borrow.Author.Needs.{needs}
 use borrow.Author.Tests.{le-ltb, lt-ltb}
 use Rattle.algebra.specs.M31.{P}
-use Rattle.fields.proofs.Answers.{first-fails, first-holds}
+use Rattle.fields.specs.AnswerLaws.{first-fails, first-holds}
 use Rattle.fields.proofs.cm31.inner.is_reduced.Statement.{statement}
 use Rattle.fields.proofs.cm31.inner.is_reduced.Tie as tie
 

@@ -1,6 +1,6 @@
 use borrow.Author.Needs.{needs}
 use borrow.Author.Tests.{ne-eqb, eq-eqb}
-use Rattle.fields.proofs.Answers.{first-fails, first-holds}
+use Rattle.fields.specs.AnswerLaws.{first-fails, first-holds}
 use Rattle.fields.proofs.cm31.inner.is_zero.Statement.{statement}
 use Rattle.fields.proofs.cm31.inner.is_zero.Tie as tie
 

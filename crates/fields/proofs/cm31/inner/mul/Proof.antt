@@ -1,6 +1,6 @@
 use borrow.Author.Needs.{needs}
 use Rattle.fields.specs.CM31.{pairOf}
-use Rattle.fields.proofs.Wide.{product}
+use Rattle.fields.proofs.ProductSums.{product}
 use Rattle.fields.proofs.cm31.inner.mul.Statement.{statement}
 use Rattle.fields.proofs.cm31.inner.mul.Tie as tie
 

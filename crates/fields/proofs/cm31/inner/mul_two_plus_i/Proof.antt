@@ -1,5 +1,5 @@
 use borrow.Author.Needs.{needs}
-use Rattle.fields.proofs.Pairs.{product-two-plus-i}
+use Rattle.fields.specs.PairLaws.{product-two-plus-i}
 use Rattle.fields.specs.CM31.{pairOf}
 use Rattle.fields.proofs.cm31.inner.mul_two_plus_i.Statement.{statement}
 use Rattle.fields.proofs.cm31.inner.mul_two_plus_i.Tie as tie

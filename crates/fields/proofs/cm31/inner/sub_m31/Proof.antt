@@ -4,7 +4,7 @@ use Rattle.algebra.specs.M31.{m31}
 use Rattle.fields.specs.Words.{words31, negP}
 use Rattle.fields.specs.Representation.{sub-embed}
 use Rattle.fields.specs.Inverse.{m31-representation}
-use Rattle.fields.proofs.Pairs.{pair}
+use Rattle.fields.specs.PairLaws.{pair}
 use Rattle.fields.proofs.cm31.inner.sub_m31.Statement.{statement}
 use Rattle.fields.proofs.cm31.inner.sub_m31.Tie as tie
 

@@ -2,7 +2,7 @@ use mathlib.Core.Path.{_∙_, ap}
 use borrow.Author.Needs.{needs}
 use Rattle.fields.specs.Words.{mulP}
 use Rattle.fields.specs.M31.{divAnswer}
-use Rattle.fields.proofs.Answers.{answers}
+use Rattle.fields.specs.AnswerLaws.{answers}
 use Rattle.fields.proofs.m31.M31.div.Statement.{statement}
 use Rattle.fields.proofs.m31.M31.div.Tie as tie
 

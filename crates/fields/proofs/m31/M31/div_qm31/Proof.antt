@@ -2,7 +2,7 @@ use mathlib.Core.Path.{_∙_, ap}
 use Rattle.fields.specs.Words.{quarticWords}
 use borrow.Author.Needs.{needs}
 use Rattle.fields.specs.QM31.{baseDivAnswer, ofBase}
-use Rattle.fields.proofs.Answers.{answers, quartics}
+use Rattle.fields.specs.AnswerLaws.{answers, quartics}
 use Rattle.fields.proofs.m31.M31.div_qm31.Statement.{statement}
 use Rattle.fields.proofs.m31.M31.div_qm31.Tie as tie
 

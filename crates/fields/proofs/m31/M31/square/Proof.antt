@@ -1,6 +1,6 @@
 use borrow.Author.Needs.{needs}
 use Rattle.fields.specs.M31.{squareAnswer}
-use Rattle.fields.proofs.Answers.{answers}
+use Rattle.fields.specs.AnswerLaws.{answers}
 use Rattle.fields.proofs.m31.M31.square.Statement.{statement}
 use Rattle.fields.proofs.m31.M31.square.Tie as tie
 

@@ -3,7 +3,7 @@ use Rattle.fields.specs.Words.{words31, complexWords}
 use Rattle.algebra.specs.Extension.{embed}
 use borrow.Author.Needs.{needs}
 use Rattle.fields.specs.CM31.{baseSubAnswer}
-use Rattle.fields.proofs.Answers.{answers, complexes}
+use Rattle.fields.specs.AnswerLaws.{answers, complexes}
 use Rattle.fields.proofs.m31.M31.sub_cm31.Statement.{statement}
 use Rattle.fields.proofs.m31.M31.sub_cm31.Tie as tie
 

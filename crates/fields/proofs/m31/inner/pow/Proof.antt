@@ -1,73 +1,51 @@
-use Prim.Native.Nat.{ℕ, _+_, _*_, _/_, _%_, _^_, _<_}
-use mathlib.Core.Path.{_≡_, refl, _∙_, sym, ap}
-use native.Mathlib.Omega.{arith}
-use lib.Dec.{lit<}
+use mathlib.Core.Path.{_∙_, sym, ap}
 use borrow.Author.Needs.{needs}
-use borrow.Author.Tests.{ltb-true, ltb-false}
-use Rattle.algebra.specs.Power.{pow}
-use Rattle.algebra.specs.M31.{P, m31}
+use Rattle.algebra.specs.M31.{m31}
 use Rattle.fields.specs.Words.{words31, mulP}
-use Rattle.fields.specs.Representation.{pow-step, pow-end}
+use Rattle.fields.specs.Wide.{number}
+use Rattle.fields.specs.WideLaws.{half-less}
 use Rattle.fields.specs.Inverse.{m31-representation}
 use Rattle.fields.proofs.Powers.{powP-pow}
+use Rattle.fields.proofs.PowerLoop.{PowerLoop, power-start, power-next, power-end}
 use Rattle.fields.proofs.m31.inner.pow.Statement.{statement}
 use Rattle.fields.proofs.m31.inner.pow.Tie as tie
 
--- res times base to the power of what is left of the exponent is the power asked for
 abbrev Inv-loop : tie.InvT-loop
-Inv-loop a high low res₀ base₀ upper₀ lower₀ res base upper lower =
-    (res < P) × (base < P) × (lower < 2 ^ 64)
-    × (mulP res (pow words31 base (upper * 2 ^ 64 + lower))
-    ≡ mulP 1 (pow words31 a (high * 2 ^ 64 + low)))
+Inv-loop a res₀ base₀ left₀ res base left = PowerLoop words31 m31 m31-representation a (number left₀) res base (number left)
 
 abbrev μ-loop : tie.MeasureT-loop
-μ-loop a high low res₀ base₀ upper₀ lower₀ res base upper lower = upper * 2 ^ 64 + lower
+μ-loop a res₀ base₀ left₀ res base left = number left
 
 loop-holds : tie.Need-loop-holds Inv-loop μ-loop
-loop-holds c = (lit< tt, search needs, search needs, refl)
+loop-holds c = power-start words31 m31 m31-representation _ _ (c .pre)
 
-more-requires : tie.Need-more-requires Inv-loop μ-loop
-more-requires c κs = search needs
+is-zero-requires : tie.Need-is-zero-requires Inv-loop μ-loop
+is-zero-requires c κs = search needs
 
-mul-if-requires : tie.Need-mul-if-requires Inv-loop μ-loop
-mul-if-requires c κs = search needs
+mul-if-odd-requires : tie.Need-mul-if-odd-requires Inv-loop μ-loop
+mul-if-odd-requires c κs = search needs
 
 mul-requires : tie.Need-mul-requires Inv-loop μ-loop
 mul-requires c κs = search needs
 
-mul-lower : tie.Need-mul-lower Inv-loop μ-loop
-mul-lower c = search needs
-
-add-lower : tie.Need-add-lower Inv-loop μ-loop
-add-lower c = search needs
+half-requires : tie.Need-half-requires Inv-loop μ-loop
+half-requires c κs = search needs
 
 loop-less : tie.Need-loop-less Inv-loop μ-loop
-loop-less c =
-    let at = c .before .before .before .before .loop in
-    let more = ltb-true 0 (at .upper * 2 ^ 64 + at .lower) (sym (c .before .before .before .more .ensures) ∙ c .before .before .if1 .taken) in
-    omega arith
+loop-less c = half-less _ _ _ (c .before .before .before .before .is-zero .ensures) (c .before .before .before .if1 .taken)
+    (c .half .ensures)
 
 loop-again : tie.Need-loop-again Inv-loop μ-loop
 loop-again c =
-    let at = c .before .before .before .before .loop in
-    let n : ℕ = at .upper * 2 ^ 64 + at .lower in
-    let rest : at .upper / 2 * 2 ^ 64 + (at .lower / 2 + at .upper % 2 * 2 ^ 63) ≡ n / 2 = omega arith in
-    let bit : at .lower % 2 ≡ n % 2 = omega arith in (
-      search needs,
-      search needs,
-      omega arith,
-      ap (λ (m : ℕ). mulP (c .before .mul-if .result) (pow words31 (c .mul .result) m)) rest
-          ∙ pow-step words31 m31 m31-representation (at .res) (at .base) (c .before .mul-if .result) (c .mul .result) n
-          (c .before .mul-if .ensures ∙ ap (mulP (at .res)) (powP-pow (at .base) (at .lower % 2)) ∙ ap (λ (m : ℕ). mulP (at .res) (pow words31 (at .base) m)) bit)
-          (c .mul .ensures)
-          ∙ at .inv .3,
-    )
+    let at = c .before .before .before .before .before .loop in
+    power-next words31 m31 m31-representation _ _ (at .res) (at .base) _ _ (number (at .left)) _ (at .inv)
+    (c .before .before .mul-if-odd .ensures ∙ ap (mulP (at .res)) (powP-pow (at .base) _)) (search needs) (c .before .mul .ensures)
+    (search needs) (c .half .ensures)
 
 returns : tie.Need-returns Inv-loop μ-loop
 returns c =
     let at = c .before .before .loop in
-    let none = ltb-false 0 (at .upper * 2 ^ 64 + at .lower) (sym (c .before .more .ensures) ∙ c .if1 .left) in
-    pow-end words31 m31 m31-representation (at .res) (at .base) _ (at .upper * 2 ^ 64 + at .lower) _ (at .inv .0) (omega arith) (at .inv .3)
+    power-end words31 m31 m31-representation _ _ (at .res) (at .base) _ _ (at .inv) (c .before .is-zero .ensures) (c .if1 .left)
     ∙ sym (powP-pow _ _)
 
 pub pow-spec : {M : Type 1} → statement M
@@ -77,11 +55,10 @@ pow-spec =
     Inv-loop
     μ-loop
     loop-holds
-    more-requires
-    mul-if-requires
+    is-zero-requires
+    mul-if-odd-requires
     mul-requires
-    mul-lower
-    add-lower
+    half-requires
     loop-less
     loop-again
     returns)

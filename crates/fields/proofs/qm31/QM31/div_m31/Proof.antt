@@ -3,7 +3,7 @@ use mathlib.Core.Path.{_∙_, ap}
 use Rattle.fields.specs.Words.{quarticWords}
 use borrow.Author.Needs.{needs}
 use Rattle.fields.specs.QM31.{divBaseAnswer, pairsOf, ofBase}
-use Rattle.fields.proofs.Answers.{answers, quartics}
+use Rattle.fields.specs.AnswerLaws.{answers, quartics}
 use Rattle.fields.proofs.qm31.QM31.div_m31.Statement.{statement}
 use Rattle.fields.proofs.qm31.QM31.div_m31.Tie as tie
 

@@ -1,6 +1,6 @@
 use borrow.Author.Needs.{needs}
 use Rattle.fields.specs.QM31.{mulBaseAnswer}
-use Rattle.fields.proofs.Answers.{answers, quartics}
+use Rattle.fields.specs.AnswerLaws.{answers, quartics}
 use Rattle.fields.proofs.qm31.QM31.mul_m31.Statement.{statement}
 use Rattle.fields.proofs.qm31.QM31.mul_m31.Tie as tie
 

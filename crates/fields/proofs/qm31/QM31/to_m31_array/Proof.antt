@@ -1,6 +1,6 @@
 use borrow.Author.Needs.{needs}
 use Rattle.fields.specs.QM31.{toArrayAnswer}
-use Rattle.fields.proofs.Answers.{answers, quartics}
+use Rattle.fields.specs.AnswerLaws.{answers, quartics}
 use Rattle.fields.proofs.qm31.QM31.to_m31_array.Statement.{statement}
 use Rattle.fields.proofs.qm31.QM31.to_m31_array.Tie as tie
 

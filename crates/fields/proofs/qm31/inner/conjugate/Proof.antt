@@ -1,6 +1,6 @@
 use mathlib.Core.Path.{refl}
 use borrow.Author.Needs.{needs}
-use Rattle.fields.proofs.Pairs.{pair}
+use Rattle.fields.specs.PairLaws.{pair}
 use Rattle.fields.proofs.qm31.inner.conjugate.Statement.{statement}
 use Rattle.fields.proofs.qm31.inner.conjugate.Tie as tie
 

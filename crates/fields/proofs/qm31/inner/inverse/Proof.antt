@@ -2,7 +2,7 @@ use borrow.Author.Needs.{needs}
 use Rattle.algebra.specs.Tower.{twoPlusI}
 use Rattle.fields.specs.Words.{words31, complexWords, complexInverse}
 use Rattle.fields.specs.QM31.{pairsOf}
-use Rattle.fields.proofs.Pairs.{ext-inverse}
+use Rattle.fields.specs.PairLaws.{ext-inverse}
 use Rattle.fields.proofs.qm31.inner.inverse.Statement.{statement}
 use Rattle.fields.proofs.qm31.inner.inverse.Tie as tie
 

@@ -1,7 +1,7 @@
 use mathlib.Core.Path.{_∙_, sym}
 use borrow.Author.Tests.{not-true, not-false}
 use borrow.Author.Needs.{needs}
-use Rattle.fields.proofs.Answers.{first-fails, first-holds}
+use Rattle.fields.specs.AnswerLaws.{first-fails, first-holds}
 use Rattle.fields.proofs.qm31.inner.is_zero.Statement.{statement}
 use Rattle.fields.proofs.qm31.inner.is_zero.Tie as tie
 

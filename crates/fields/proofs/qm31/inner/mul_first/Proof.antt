@@ -1,6 +1,6 @@
 use borrow.Author.Needs.{needs}
 use Rattle.fields.specs.CM31.{pairOf}
-use Rattle.fields.proofs.Wide.{first-part}
+use Rattle.fields.proofs.ProductSums.{first-part}
 use Rattle.fields.proofs.qm31.inner.mul_first.Statement.{statement}
 use Rattle.fields.proofs.qm31.inner.mul_first.Tie as tie
 

@@ -6,7 +6,7 @@ use Rattle.fields.specs.Words.{words31, complexWords}
 use Rattle.fields.specs.CM31.{pairOf}
 use Rattle.fields.specs.Representation.{mul-embed}
 use Rattle.fields.specs.Inverse.{cm31-representation}
-use Rattle.fields.proofs.Pairs.{pair}
+use Rattle.fields.specs.PairLaws.{pair}
 use Rattle.fields.proofs.qm31.inner.mul_m31.Statement.{statement}
 use Rattle.fields.proofs.qm31.inner.mul_m31.Tie as tie
 

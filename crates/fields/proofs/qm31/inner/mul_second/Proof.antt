@@ -1,6 +1,6 @@
 use borrow.Author.Needs.{needs}
 use Rattle.fields.specs.CM31.{pairOf}
-use Rattle.fields.proofs.Wide.{second-part}
+use Rattle.fields.proofs.ProductSums.{second-part}
 use Rattle.fields.proofs.qm31.inner.mul_second.Statement.{statement}
 use Rattle.fields.proofs.qm31.inner.mul_second.Tie as tie
 

@@ -1,5 +1,5 @@
 use borrow.Author.Needs.{needs}
-use Rattle.fields.proofs.Pairs.{pair}
+use Rattle.fields.specs.PairLaws.{pair}
 use Rattle.fields.proofs.qm31.inner.neg.Statement.{statement}
 use Rattle.fields.proofs.qm31.inner.neg.Tie as tie
 

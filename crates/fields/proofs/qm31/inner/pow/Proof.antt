@@ -1,74 +1,53 @@
-use Prim.Native.Nat.{ℕ, _+_, _*_, _/_, _%_, _^_, _<_}
-use mathlib.Core.Path.{_≡_, refl, _∙_, sym, ap}
-use native.Mathlib.Omega.{arith}
-use lib.Dec.{lit<}
 use borrow.Author.Needs.{needs}
-use borrow.Author.Tests.{ltb-true, ltb-false}
-use Rattle.algebra.specs.Power.{pow}
 use Rattle.algebra.specs.Tower.{qm31}
 use Rattle.fields.specs.Words.{quarticWords}
-use Rattle.fields.specs.QM31.{pairsOf, Reduced}
-use Rattle.fields.specs.Representation.{pow-step, pow-end}
+use Rattle.fields.specs.QM31.{pairsOf}
+use Rattle.fields.specs.Wide.{number}
+use Rattle.fields.specs.WideLaws.{half-less}
 use Rattle.fields.specs.Inverse.{qm31-representation}
+use Rattle.fields.proofs.PowerLoop.{PowerLoop, power-start, power-next, power-end}
 use Rattle.fields.proofs.qm31.inner.pow.Statement.{statement}
 use Rattle.fields.proofs.qm31.inner.pow.Tie as tie
 
--- res times base to the power of what is left of the exponent is the power asked for
 abbrev Inv-loop : tie.InvT-loop
-Inv-loop high low res₀ base₀ upper₀ lower₀ res base upper lower =
-    (Reduced res) × (Reduced base) × (lower < 2 ^ 64)
-    × (quarticWords .mul (pairsOf res) (pow quarticWords (pairsOf base) (upper * 2 ^ 64 + lower))
-    ≡ quarticWords .mul (quarticWords .one) (pow quarticWords (pairsOf base₀) (high * 2 ^ 64 + low)))
+Inv-loop res₀ base₀ left₀ res base left = PowerLoop quarticWords qm31 qm31-representation (pairsOf base₀) (number left₀) (pairsOf res)
+    (pairsOf base) (number left)
 
 abbrev μ-loop : tie.MeasureT-loop
-μ-loop high low res₀ base₀ upper₀ lower₀ res base upper lower = upper * 2 ^ 64 + lower
+μ-loop res₀ base₀ left₀ res base left = number left
 
 loop-holds : tie.Need-loop-holds Inv-loop μ-loop
-loop-holds c = (((lit< tt, lit< tt), (lit< tt, lit< tt)), search needs, search needs, refl)
+loop-holds c = power-start quarticWords qm31 qm31-representation _ _ (c .pre)
 
-more-requires : tie.Need-more-requires Inv-loop μ-loop
-more-requires c κs = search needs
+is-zero-requires : tie.Need-is-zero-requires Inv-loop μ-loop
+is-zero-requires c κs = search needs
 
-mul-if-requires : tie.Need-mul-if-requires Inv-loop μ-loop
-mul-if-requires c κs = search needs
+mul-if-odd-requires : tie.Need-mul-if-odd-requires Inv-loop μ-loop
+mul-if-odd-requires c κs = search needs
 
 mul-requires : tie.Need-mul-requires Inv-loop μ-loop
 mul-requires c κs = search needs
 
-mul-lower : tie.Need-mul-lower Inv-loop μ-loop
-mul-lower c = search needs
-
-add-lower : tie.Need-add-lower Inv-loop μ-loop
-add-lower c = search needs
+half-requires : tie.Need-half-requires Inv-loop μ-loop
+half-requires c κs = search needs
 
 loop-less : tie.Need-loop-less Inv-loop μ-loop
-loop-less c =
-    let at = c .before .before .before .before .loop in
-    let more = ltb-true 0 (at .upper * 2 ^ 64 + at .lower) (sym (c .before .before .before .more .ensures) ∙ c .before .before .if1 .taken) in
-    omega arith
+loop-less c = half-less _ _ _ (c .before .before .before .before .is-zero .ensures) (c .before .before .before .if1 .taken)
+    (c .half .ensures)
 
 loop-again : tie.Need-loop-again Inv-loop μ-loop
 loop-again c =
-    let at = c .before .before .before .before .loop in
-    let n : ℕ = at .upper * 2 ^ 64 + at .lower in
-    let rest : at .upper / 2 * 2 ^ 64 + (at .lower / 2 + at .upper % 2 * 2 ^ 63) ≡ n / 2 = omega arith in
-    let bit : at .lower % 2 ≡ n % 2 = omega arith in (
-      search needs,
-      search needs,
-      omega arith,
-      ap (λ (m : ℕ). quarticWords .mul (pairsOf (c .before .mul-if .result)) (pow quarticWords (pairsOf (c .mul .result)) m)) rest
-          ∙ pow-step quarticWords qm31 qm31-representation (pairsOf (at .res)) (pairsOf (at .base)) (pairsOf (c .before .mul-if .result)) (pairsOf (c .mul .result)) n
-          (c .before .mul-if .ensures .0 ∙ ap (λ (m : ℕ). quarticWords .mul (pairsOf (at .res)) (pow quarticWords (pairsOf (at .base)) m)) bit)
-          (c .mul .ensures .0)
-          ∙ at .inv .3,
-    )
+    let at = c .before .before .before .before .before .loop in
+    power-next quarticWords qm31 qm31-representation _ _ (pairsOf (at .res)) (pairsOf (at .base)) _ _ (number (at .left)) _ (at .inv)
+    (c .before .before .mul-if-odd .ensures .0) (c .before .before .mul-if-odd .ensures .1) (c .before .mul .ensures .0)
+    (c .before .mul .ensures .1) (c .half .ensures)
 
 returns : tie.Need-returns Inv-loop μ-loop
 returns c =
-    let at = c .before .before .loop in
-    let none = ltb-false 0 (at .upper * 2 ^ 64 + at .lower) (sym (c .before .more .ensures) ∙ c .if1 .left) in (
-      pow-end quarticWords qm31 qm31-representation (pairsOf (at .res)) (pairsOf (at .base)) _ (at .upper * 2 ^ 64 + at .lower) _ (at .inv .0) (omega arith) (at .inv .3),
-      at .inv .0,
+    let at = c .before .before .loop in (
+      power-end quarticWords qm31 qm31-representation _ _ (pairsOf (at .res)) (pairsOf (at .base)) _ _ (at .inv)
+          (c .before .is-zero .ensures) (c .if1 .left),
+      at .inv .res-reduced,
     )
 
 pub pow-spec : {M : Type 1} → statement M
@@ -78,11 +57,10 @@ pow-spec =
     Inv-loop
     μ-loop
     loop-holds
-    more-requires
-    mul-if-requires
+    is-zero-requires
+    mul-if-odd-requires
     mul-requires
-    mul-lower
-    add-lower
+    half-requires
     loop-less
     loop-again
     returns)

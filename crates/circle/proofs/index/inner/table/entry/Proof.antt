@@ -20,7 +20,7 @@ add-at : tie.Need-add-at
 add-at c = search needs
 
 row-requires : tie.Need-row-requires
-row-requires c κs = omega (arith, in-table (c .args .window) (c .args .digit) (c .pre .0) (c .pre .1) (c .pre .2))
+row-requires c κs = omega (arith, in-table (c .args .window) (c .args .digit) (c .pre))
 
 mul-place : tie.Need-mul-place
 mul-place c = search needs
@@ -42,10 +42,9 @@ array-read-t16 c = search needs
 
 returns : tie.Need-returns
 returns c =
-    let pre = c .before .pre in
     let w = c .before .args .window in
     let d = c .before .args .digit in
-    let e = row-entry w d (c .row .result) (c .row .ensures) (pre .0) (pre .1) (pre .2) in (
+    let e = row-entry w d (c .row .result) (c .row .ensures) (c .before .pre) in (
       e,
       subst (λ (p : ℕ × ℕ). PointReduced words31 m31 m31-representation p) (sym e) (multiple-reduced words31 m31 m31-representation (d * digits ^ w) generator),
     )

@@ -12,10 +12,11 @@ use Rattle.circle.proofs.index.inner.table.look_up.Statement.{statement
 use Rattle.circle.proofs.index.inner.table.look_up.Tie as tie
 
 abbrev Inv-loop : tie.InvT-loop
-Inv-loop k sum₀ rest₀ window₀ sum rest window = (Reduced sum) × (window ≤ 4) × (rest ≡ k / digits ^ window) × (pointOf sum ≡ indexPoint (k % digits ^ window))
+Inv-loop sum₀ rest₀ window₀ sum rest window = (Reduced sum) × (window ≤ 4) × (rest ≡ rest₀ / digits ^ window) ×
+    (pointOf sum ≡ indexPoint (rest₀ % digits ^ window))
 
 abbrev μ-loop : tie.MeasureT-loop
-μ-loop k sum₀ rest₀ window₀ sum rest window = 4 - window
+μ-loop sum₀ rest₀ window₀ sum rest window = 4 - window
 
 zero-requires : tie.Need-zero-requires Inv-loop μ-loop
 zero-requires c κs = search needs
@@ -25,14 +26,19 @@ loop-holds c =
     let zero = c .zero .ensures in (
       subst (λ (p : CirclePoint). Reduced p) (sym zero) (lit< tt, lit< tt),
       omega arith,
-      rest-start (c .before .args .k),
-      ap (λ (p : CirclePoint). pointOf p) zero ∙ sum-start (c .before .args .k),
+      rest-start (c .before .args .k .0),
+      ap (λ (p : CirclePoint). pointOf p) zero ∙ sum-start (c .before .args .k .0),
     )
 
 entry-requires : tie.Need-entry-requires Inv-loop μ-loop
 entry-requires c κs =
     let at = c .before .loop in
-    (omega arith, omega arith, digit-below (c .before .before .before .args .k) (at .window) (at .rest) (c .before .before .before .pre) (at .inv .2))
+    record {
+      isWindow = omega arith;
+      isDigit = omega arith;
+      isIndex =
+          digit-below (c .before .before .before .args .k .0) (at .window) (at .rest) (c .before .before .before .pre) (at .inv .2);
+    }
 
 add-requires : tie.Need-add-requires Inv-loop μ-loop
 add-requires c κs = (c .before .before .loop .inv .0, c .entry .ensures .1)
@@ -46,7 +52,7 @@ loop-less c = omega arith
 loop-again : tie.Need-loop-again Inv-loop μ-loop
 loop-again c =
     let at = c .before .before .before .loop in
-    let k = c .before .before .before .before .before .args .k in (
+    let k = c .before .before .before .before .before .args .k .0 in (
       c .add .ensures .1,
       omega arith,
       rest-next k (at .window) (at .rest) (at .inv .2),
@@ -56,7 +62,7 @@ loop-again c =
 returns : tie.Need-returns Inv-loop μ-loop
 returns c =
     let at = c .before .loop in
-    (at .inv .3 ∙ sum-end (c .before .before .before .args .k) (at .window) (c .before .before .before .pre) (omega arith), at .inv .0)
+    (at .inv .3 ∙ sum-end (c .before .before .before .args .k .0) (at .window) (c .before .before .before .pre) (omega arith), at .inv .0)
 
 pub look-up-spec : {M : Type 1} → statement M
 look-up-spec =
