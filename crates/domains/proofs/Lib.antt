@@ -1,2 +1,4 @@
 pub mod Records
 pub mod Shifts
+pub mod Steps
+pub mod Turns

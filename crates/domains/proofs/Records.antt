@@ -1,100 +1,149 @@
--- How a need at a return is closed where the answer goes by the checks of a record, or is a record.
-use Prim.Native.Nat.{ℕ, _-_, _^_, _≤_, _<_}
+-- How a need is closed where the answer goes by the checks of a record, or is a record.
+use Prim.Native.Nat.{ℕ, _-_, _%_, _^_, _≤_, _<_}
 use mathlib.Core.Path.{_≡_, refl, sym, _∙_, ap}
-use mathlib.Core.Bool.{Bool, true, false, cond, not, _&&_, and-eq-true-iff}
+use mathlib.Core.Bool.{Bool, true, false, cond, not, _&&_}
+use mathlib.Core.List.{_++_}
 use native.Mathlib.Omega.{arith}
-use lib.Dec.{leb, ltb}
+use lib.Dec.{ltb}
 use borrow.Author.Tests.{leb-true, not-false}
+use Rattle.fields.specs.Check.{Checks, need, checked, outcome}
+use Rattle.fields.specs.CheckLaws.{Hold, hold-split, passed-hold, at-refused, at-passed}
+use Rattle.fields.specs.LogSize.{isLogSize}
+use Rattle.fields.specs.LogSizeLaws.{log-size-fits}
+use Rattle.fields.specs.declared.check.Check.{Check}
+use Rattle.fields.specs.declared.check.Check.the-variants.{Passed, Refused}
 use Rattle.fields.specs.declared.refusal.Refusal.{Refusal}
+use Rattle.fields.specs.declared.refusal.Refusal.the-variants.{LogSize}
 use Rattle.circle.specs.Point.{Reduced, reduced, pointOf, ofPoint}
-use Rattle.circle.specs.Index.{ofIndex, negIndex, subgroupGen}
+use Rattle.circle.specs.Point as P
+use Rattle.circle.specs.Index.{ofIndex, IsIndex, inRange, negIndex, subgroupGen}
+use Rattle.circle.specs.AnswerLaws.{x-below, y-below, index-fits}
 use Rattle.circle.specs.declared.point.CirclePoint.{CirclePoint}
 use Rattle.circle.specs.declared.index.CirclePointIndex.{CirclePointIndex}
-use Rattle.circle.proofs.Answers.{x-below, y-below}
-use Rattle.domains.specs.declared.record.Check.{Check}
-use Rattle.domains.specs.declared.record.Check.the-variants.{Passed, Refused}
 use Rattle.domains.specs.declared.coset.Coset.{Coset}
 use Rattle.domains.specs.declared.canonic.CanonicCoset.{CanonicCoset}
 use Rattle.domains.specs.declared.canonic.CanonicCosetAnswer.the-variants as CA
 use Rattle.domains.specs.declared.domain.CircleDomainAnswer.the-variants as DA
-use Rattle.domains.specs.Record.{rows, passed}
-use Rattle.domains.specs.Coset.{hasLogSize, hasIndices, hasWords, check, checkTwo, checkWithIndex, Fits, indexAt}
+use Rattle.domains.specs.Record.{logSize, indices, words, check, checkCanonic, checkTwo, checkWithIndex, Fits, FitsCanonic}
+use Rattle.domains.specs.Coset.{indexAt}
 use Rattle.domains.specs.Domain.{ofHalf, domainIndexAt, index-first, index-second}
-use Rattle.domains.specs.Canonic.{isLogSize}
-use Rattle.domains.specs.CosetLaws.{subgroup-gen-most}
-use Rattle.domains.specs.Canonic as C
+use Rattle.domains.specs.CosetLaws.{subgroup-gen-index}
 use Rattle.domains.specs.Iterator as T
 use Rattle.domains.specs.declared.iterator.CosetIterator.{CosetIterator}
+use Rattle.domains.specs.declared.iterator.CircleDomainIndexIterator.{CircleDomainIndexIterator}
 
--- r is what the checks t said
-pub at-refused : {A : Type 0} (t r : Check) (why : Refusal) (f : Refusal → A) (a : A) → r ≡ t → r ≡ Refused why → f why ≡ passed t f a
-unfolding passed
-at-refused t r why f a e h = rw (sym e ∙ h)
+-- ---- r is what the checks of a record said
 
-pub at-passed : {A : Type 0} (t r : Check) (f : Refusal → A) (x a : A) → r ≡ t → r ≡ Passed → x ≡ a → x ≡ passed t f a
-unfolding passed
-at-passed t r f x a e h g = rw (sym e ∙ h) g
+abbrev Refuses : Checks → Type 1
+Refuses checks = (A : Type 0) (r : Check) (why : Refusal) (f : Refusal → A) (a : A) → r ≡ outcome checks → r ≡ Refused why
+    → f why ≡ checked checks f a
+
+abbrev Passes : Checks → Type 1
+Passes checks = (A : Type 0) (r : Check) (f : Refusal → A) (x a : A) → r ≡ outcome checks → r ≡ Passed → x ≡ a → x ≡ checked checks f a
+
+pub coset-refused : (c : Coset) → Refuses (check c)
+coset-refused c A = at-refused (check c)
+
+pub coset-passed : (c : Coset) → Passes (check c)
+coset-passed c A = at-passed (check c)
+
+pub canonic-refused : (c : CanonicCoset) → Refuses (checkCanonic c)
+canonic-refused c A = at-refused (checkCanonic c)
+
+pub canonic-passed : (c : CanonicCoset) → Passes (checkCanonic c)
+canonic-passed c A = at-passed (checkCanonic c)
+
+pub two-refused : (c d : Coset) → Refuses (checkTwo c d)
+two-refused c d A = at-refused (checkTwo c d)
+
+pub two-passed : (c d : Coset) → Passes (checkTwo c d)
+two-passed c d A = at-passed (checkTwo c d)
+
+pub with-index-refused : (c : Coset) (k : CirclePointIndex) → Refuses (checkWithIndex c k)
+with-index-refused c k A = at-refused (checkWithIndex c k)
+
+pub with-index-passed : (c : Coset) (k : CirclePointIndex) → Passes (checkWithIndex c k)
+with-index-passed c k A = at-passed (checkWithIndex c k)
+
+pub iterator-refused : (it : CosetIterator) → Refuses (T.check it)
+iterator-refused it A = at-refused (T.check it)
+
+pub iterator-passed : (it : CosetIterator) → Passes (T.check it)
+iterator-passed it A = at-passed (T.check it)
+
+pub domain-iterator-refused : (it : CircleDomainIndexIterator) → Refuses (T.checkBoth it)
+domain-iterator-refused it A = at-refused (T.checkBoth it)
+
+pub domain-iterator-passed : (it : CircleDomainIndexIterator) → Passes (T.checkBoth it)
+domain-iterator-passed it A = at-passed (T.checkBoth it)
 
 -- ---- what a record has that passes
 
-all-rows : (a b c : Bool) → rows a b c ≡ Passed → (a ≡ true) × (b ≡ true) × (c ≡ true)
-unfolding rows
-all-rows true true true e = (refl, refl, refl)
-all-rows true true false e = (refl, refl, cc)
-all-rows true false c e = (refl, cc, cc)
-all-rows false b c e = (cc, cc, cc)
+index-holds : (k : CirclePointIndex) → Hold (inRange k) → IsIndex k
+index-holds k h = index-fits k true (sym (h .0)) refl
 
 point-fits : (p : CirclePoint) → reduced p ≡ true → Reduced p
 point-fits p e = (x-below p true (sym e) refl, y-below p true (sym e) refl)
 
-fits-of : (c : Coset) → c .«log_size» ≤ 31 → hasIndices c ≡ true → hasWords c ≡ true → Fits c
-fits-of c h i w =
-    let indices = and-eq-true-iff (leb (c .«initial_index» .0) (2 ^ 31)) (leb (c .«step_size» .0) (2 ^ 31)) .0 i in
-    let words = and-eq-true-iff (reduced (c .initial)) (reduced (c .step)) .0 w in
-    record {
-      logSizeFits = h;
-      initialIndexFits = leb-true (c .«initial_index» .0) (2 ^ 31) (indices .0);
-      stepSizeFits = leb-true (c .«step_size» .0) (2 ^ 31) (indices .1);
-      initialReduced = point-fits (c .initial) (words .0);
-      stepReduced = point-fits (c .step) (words .1);
-    }
+indices-fit : (c : Coset) → Hold (indices c) → (IsIndex (c .«initial_index»)) × (IsIndex (c .«step_size»))
+indices-fit c h =
+    let both = hold-split (inRange (c .«initial_index»)) (inRange (c .«step_size»)) h in
+    (index-holds (c .«initial_index») (both .0), index-holds (c .«step_size») (both .1))
 
-pub fits : (c : Coset) (r : Check) → r ≡ check c → r ≡ Passed → Fits c
+words-fit : (c : Coset) → Hold (words c) → (Reduced (c .initial)) × (Reduced (c .step))
+words-fit c h =
+    let both = hold-split (P.words (c .initial)) (P.words (c .step)) h in
+    (point-fits (c .initial) (both .0 .0), point-fits (c .step) (both .1 .0))
+
+all-fit : (c : Coset) → c .«log_size» ≤ 31 → Hold (indices c) → Hold (words c) → Fits c
+all-fit c h i w = record {
+  logSizeFits = h;
+  initialIndexFits = indices-fit c i .0;
+  stepSizeFits = indices-fit c i .1;
+  initialReduced = words-fit c w .0;
+  stepReduced = words-fit c w .1;
+}
+
+size-fits : (c : Coset) → Hold (logSize c) → c .«log_size» ≤ 31
+size-fits c h = leb-true (c .«log_size») 31 (h .0)
+
+pub fits : (c : Coset) (r : Check) → r ≡ outcome (check c) → r ≡ Passed → Fits c
 unfolding check
 fits c r e h =
-    let t = all-rows (hasLogSize c) (hasIndices c) (hasWords c) (sym e ∙ h) in
-    fits-of c (leb-true (c .«log_size») 31 (t .0)) (t .1) (t .2)
+    let first = hold-split (logSize c) (indices c ++ words c) (passed-hold (logSize c ++ indices c ++ words c) r e h) in
+    let rest = hold-split (indices c) (words c) (first .1) in
+    all-fit c (size-fits c (first .0)) (rest .0) (rest .1)
 
 -- the second of two
-pub second-fits : (c d : Coset) (r : Check) → r ≡ checkTwo c d → r ≡ Passed → Fits d
+pub second-fits : (c d : Coset) (r : Check) → r ≡ outcome (checkTwo c d) → r ≡ Passed → Fits d
 unfolding checkTwo
 second-fits c d r e h =
-    let t = all-rows (hasLogSize c && hasLogSize d) (hasIndices c && hasIndices d) (hasWords c && hasWords d) (sym e ∙ h) in
-    fits-of d (leb-true (d .«log_size») 31 (and-eq-true-iff (hasLogSize c) (hasLogSize d) .0 (t .0) .1)) (and-eq-true-iff (hasIndices c) (hasIndices d) .0 (t .1) .1)
-    (and-eq-true-iff (hasWords c) (hasWords d) .0 (t .2) .1)
+    let sizes = hold-split (logSize c ++ logSize d) ((indices c ++ indices d) ++ (words c ++ words d)) (passed-hold (checkTwo c d) r e h) in
+    let rest = hold-split (indices c ++ indices d) (words c ++ words d) (sizes .1) in
+    all-fit d (size-fits d (hold-split (logSize c) (logSize d) (sizes .0) .1)) (hold-split (indices c) (indices d) (rest .0) .1)
+    (hold-split (words c) (words d) (rest .1) .1)
 
-pub with-index-fits : (c : Coset) (k : ℕ) (r : Check) → r ≡ checkWithIndex c k → r ≡ Passed → (Fits c) × (k ≤ 2 ^ 31)
+pub with-index-fits : (c : Coset) (k : CirclePointIndex) (r : Check) → r ≡ outcome (checkWithIndex c k) → r ≡ Passed
+    → (Fits c) × (IsIndex k)
 unfolding checkWithIndex
 with-index-fits c k r e h =
-    let t = all-rows (hasLogSize c) (hasIndices c && leb k (2 ^ 31)) (hasWords c) (sym e ∙ h) in
-    let indices = and-eq-true-iff (hasIndices c) (leb k (2 ^ 31)) .0 (t .1) in
-    (fits-of c (leb-true (c .«log_size») 31 (t .0)) (indices .0) (t .2), leb-true k (2 ^ 31) (indices .1))
+    let size = hold-split (logSize c) (indices c ++ (inRange k ++ words c)) (passed-hold (checkWithIndex c k) r e h) in
+    let first = hold-split (indices c) (inRange k ++ words c) (size .1) in
+    let second = hold-split (inRange k) (words c) (first .1) in
+    (all-fit c (size-fits c (size .0)) (first .0) (second .1), index-holds k (second .0))
 
-pub canonic-fits : (c : CanonicCoset) (r : Check) → r ≡ C.check c → r ≡ Passed → (Fits (c .coset)) × (1 ≤ c .coset .«log_size») × (c .coset .«log_size» ≤ 30)
-unfolding C.check
+pub canonic-fits : (c : CanonicCoset) (r : Check) → r ≡ outcome (checkCanonic c) → r ≡ Passed → FitsCanonic c
+unfolding checkCanonic
 canonic-fits c r e h =
     let n = c .coset .«log_size» in
-    let t = all-rows (isLogSize n) (hasIndices (c .coset)) (hasWords (c .coset)) (sym e ∙ h) in
-    let size = and-eq-true-iff (leb 1 n) (leb n 30) .0 (t .0) in
-    let low : 1 ≤ n = leb-true 1 n (size .0) in
-    let high : n ≤ 30 = leb-true n 30 (size .1) in
-    (fits-of (c .coset) (omega arith) (t .1) (t .2), low, high)
+    let size = hold-split (need (isLogSize n) LogSize) (indices (c .coset) ++ words (c .coset)) (passed-hold (checkCanonic c) r e h) in
+    let range = log-size-fits n (size .0 .0) in
+    let rest = hold-split (indices (c .coset)) (words (c .coset)) (size .1) in
+    record { coset = all-fit (c .coset) (omega arith) (rest .0) (rest .1); least = range .0; most = range .1 }
 
 -- a log size that is one of a canonic coset
 pub canonic-log-size : (n : ℕ) (r : Bool) → r ≡ isLogSize n → not r ≡ false → (1 ≤ n) × (n ≤ 30)
-canonic-log-size n r e h =
-    let size = and-eq-true-iff (leb 1 n) (leb n 30) .0 (sym e ∙ not-false r h) in
-    (leb-true 1 n (size .0), leb-true n 30 (size .1))
+canonic-log-size n r e h = log-size-fits n (sym e ∙ not-false r h)
 
 -- ---- indices are below 2^31
 
@@ -111,28 +160,29 @@ unfolding domainIndexAt
 domain-index-below c i =
     cond-below (ltb i (2 ^ c .«log_size»)) (indexAt c i) (negIndex (indexAt c (i - 2 ^ c .«log_size»))) (index-at-below c i) (omega arith)
 
-pub index-fits : (c : Coset) (i r : ℕ) → r ≡ indexAt c i → r ≤ 2 ^ 31
-index-fits c i r e = omega (arith, index-at-below c i)
+pub index-at-fits : (c : Coset) (i : ℕ) (r : CirclePointIndex) → r .0 ≡ indexAt c i → IsIndex r
+index-at-fits c i r e = omega (arith, index-at-below c i)
 
-pub domain-index-fits : (c : Coset) (i r : ℕ) → r ≡ domainIndexAt c i → r ≤ 2 ^ 31
+pub domain-index-fits : (c : Coset) (i : ℕ) (r : CirclePointIndex) → r .0 ≡ domainIndexAt c i → IsIndex r
 domain-index-fits c i r e = omega (arith, domain-index-below c i)
 
 -- ---- iterators
 
-pub iterator-fits : (it : CosetIterator) (r : Bool) → r ≡ T.hasIndices it → r ≡ true → (it .cur .0 ≤ 2 ^ 31) × (it .step .0 ≤ 2 ^ 31)
-iterator-fits it r e h =
-    let indices = and-eq-true-iff (leb (it .cur .0) (2 ^ 31)) (leb (it .step .0) (2 ^ 31)) .0 (sym e ∙ h) in
-    (leb-true (it .cur .0) (2 ^ 31) (indices .0), leb-true (it .step .0) (2 ^ 31) (indices .1))
+pub iterator-fits : (it : CosetIterator) → Hold (T.check it) → 0 < it .remaining → T.CanAdvance it
+unfolding T.check
+iterator-fits it t h =
+    let both = hold-split (inRange (it .cur)) (inRange (it .step)) t in
+    record { curFits = index-holds (it .cur) (both .0); stepFits = index-holds (it .step) (both .1); some = h }
 
--- two tests, of which both hold
-pub both-hold : (a b r : Bool) → r ≡ (a && b) → not r ≡ false → (a ≡ true) × (b ≡ true)
-both-hold a b r e h = and-eq-true-iff a b .0 (sym e ∙ not-false r h)
+pub first-holds : (it : CircleDomainIndexIterator) → Hold (T.checkBoth it) → Hold (T.check (it .first))
+unfolding T.check T.checkBoth
+first-holds it t = hold-split (T.check (it .first)) (T.check (it .second)) t .0
 
--- ---- tests that were answered
+pub second-holds : (it : CircleDomainIndexIterator) → Hold (T.checkBoth it) → Hold (T.check (it .second))
+unfolding T.check T.checkBoth
+second-holds it t = hold-split (T.check (it .first)) (T.check (it .second)) t .1
 
-pub rows-of : (a b c d e f : Bool) (r : Check) → r ≡ rows a b c → a ≡ d → b ≡ e → c ≡ f → r ≡ rows d e f
-rows-of a b c d e f r h i j k = h ∙ (λ t. rows (i t) (j t) (k t))
-
+-- two tests that were answered
 pub both-of : (a b c d r : Bool) → r ≡ (a && b) → a ≡ c → b ≡ d → r ≡ (c && d)
 both-of a b c d r h i j = h ∙ (λ t. i t && j t)
 
@@ -144,30 +194,47 @@ canonic-value c d e = ap (λ (t : Coset). CA.Value (record { coset = t })) e
 pub domain-value : (c d : Coset) → c ≡ d → DA.Value (ofHalf c) ≡ DA.Value (ofHalf d)
 domain-value c d e = ap (λ (t : Coset). DA.Value (ofHalf t)) e
 
-pub ruleset records = (at-refused, at-passed, canonic-value, domain-value)
+pub ruleset records = (
+  coset-refused,
+  coset-passed,
+  canonic-refused,
+  canonic-passed,
+  two-refused,
+  two-passed,
+  with-index-refused,
+  with-index-passed,
+  iterator-refused,
+  iterator-passed,
+  domain-iterator-refused,
+  domain-iterator-passed,
+  canonic-value,
+  domain-value,
+)
 
 -- ---- records that are equal field by field
 
--- a coset of its fields, the indices as numbers
-abbrev pub cosetWith : ℕ → CirclePoint → ℕ → CirclePoint → ℕ → Coset
-cosetWith k p s q n = record { «initial_index» = ofIndex k; initial = p; «step_size» = ofIndex s; step = q; «log_size» = n }
+-- a coset of its fields
+abbrev pub cosetWith : CirclePointIndex → CirclePoint → CirclePointIndex → CirclePoint → ℕ → Coset
+cosetWith k p s q n = record { «initial_index» = k; initial = p; «step_size» = s; step = q; «log_size» = n }
 
-pub coset-equal : (k l s t n m : ℕ) (p q : CirclePoint) (x y : ℕ × ℕ) → k ≡ l → pointOf p ≡ x → s ≡ t → pointOf q ≡ y → n ≡ m
-    → cosetWith k p s q n ≡ cosetWith l (ofPoint x) t (ofPoint y) m
-coset-equal k l s t n m p q x y e f g h d = λ i. cosetWith (e i) (ofPoint (f i)) (g i) (ofPoint (h i)) (d i)
+pub coset-equal : (k s : CirclePointIndex) (l t n m : ℕ) (p q : CirclePoint) (x y : ℕ × ℕ) → k .0 ≡ l → pointOf p ≡ x → s .0 ≡ t
+    → pointOf q ≡ y → n ≡ m
+    → cosetWith k p s q n ≡ cosetWith (ofIndex l) (ofPoint x) (ofIndex t) (ofPoint y) m
+coset-equal k s l t n m p q x y e f g h d = λ i. cosetWith (ofIndex (e i)) (ofPoint (f i)) (ofIndex (g i)) (ofPoint (h i)) (d i)
 
 abbrev pub iteratorWith : CirclePointIndex → CirclePointIndex → ℕ → CosetIterator
 iteratorWith k s n = record { cur = k; step = s; remaining = n }
 
 -- a generator of a subgroup is an index
-pub subgroup-gen-fits : (n r : ℕ) → r ≡ subgroupGen n → r ≤ 2 ^ 31
-subgroup-gen-fits n r e = rw e (subgroup-gen-most n)
+pub subgroup-gen-fits : (n : ℕ) (r : CirclePointIndex) → r .0 ≡ subgroupGen n → IsIndex r
+subgroup-gen-fits n r e = rw e (subgroup-gen-index n)
 
 -- ---- the domain's index on its first half and on its second
 
-pub at-first : (c : Coset) (i r size : ℕ) → size ≡ 2 ^ c .«log_size» → i < size → r ≡ indexAt c i → r ≡ domainIndexAt c i
-at-first c i r size e h g = g ∙ sym (index-first c i (omega (arith, e)))
+pub on-first : (c : Coset) (i r size : ℕ) → size ≡ 2 ^ c .«log_size» → i < size → r ≡ indexAt c i → r ≡ domainIndexAt c i
+on-first c i r size e h g = g ∙ sym (index-first c i (omega (arith, e)))
 
-pub at-second : (c : Coset) (i k r size : ℕ) → size ≡ 2 ^ c .«log_size» → size ≤ i → k ≡ indexAt c (i - size) → r ≡ negIndex k → r ≡ domainIndexAt c i
-at-second c i k r size e h f g =
+pub on-second : (c : Coset) (i k r size : ℕ) → size ≡ 2 ^ c .«log_size» → size ≤ i → k ≡ indexAt c (i - size) → r ≡ negIndex k
+    → r ≡ domainIndexAt c i
+on-second c i k r size e h f g =
     g ∙ ap negIndex (f ∙ ap (λ (t : ℕ). indexAt c (i - t)) e) ∙ sym (index-second c i (omega (arith, e)))

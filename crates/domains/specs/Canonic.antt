@@ -1,7 +1,7 @@
 -- What each call of canonic cosets answers: the refusals of document 01's table in its order, then its formulas.
 use Prim.Native.Nat.{ℕ, _+_, _-_, _^_}
-use mathlib.Core.Bool.{Bool, cond, _&&_}
-use lib.Dec.{leb}
+use Rattle.fields.specs.Check.{need, checked}
+use Rattle.fields.specs.LogSize.{isLogSize}
 use Rattle.fields.specs.declared.refusal.Refusal.the-variants.{LogSize}
 use Rattle.fields.specs.declared.answer.U64Answer.{U64Answer}
 use Rattle.fields.specs.declared.answer.U64Answer.the-variants as L
@@ -13,7 +13,6 @@ use Rattle.circle.specs.declared.point.CirclePointAnswer.{CirclePointAnswer}
 use Rattle.circle.specs.declared.point.CirclePointAnswer.the-variants as P
 use Rattle.circle.specs.declared.index.CirclePointIndexAnswer.{CirclePointIndexAnswer}
 use Rattle.circle.specs.declared.index.CirclePointIndexAnswer.the-variants as I
-use Rattle.domains.specs.declared.record.Check.{Check}
 use Rattle.domains.specs.declared.coset.Coset.{Coset}
 use Rattle.domains.specs.declared.coset.CosetAnswer.{CosetAnswer}
 use Rattle.domains.specs.declared.coset.CosetAnswer.the-variants as C
@@ -22,16 +21,9 @@ use Rattle.domains.specs.declared.canonic.CanonicCosetAnswer.{CanonicCos
 use Rattle.domains.specs.declared.canonic.CanonicCosetAnswer.the-variants.{Value, Refused}
 use Rattle.domains.specs.declared.domain.CircleDomainAnswer.{CircleDomainAnswer}
 use Rattle.domains.specs.declared.domain.CircleDomainAnswer.the-variants as D
-use Rattle.domains.specs.Record.{rows, passed}
-use Rattle.domains.specs.Coset.{hasIndices, hasWords, cosetOf, indexAt}
+use Rattle.domains.specs.Record.{checkCanonic}
+use Rattle.domains.specs.Coset.{cosetOf, indexAt}
 use Rattle.domains.specs.Domain.{ofHalf}
-
--- from 1 to 30
-abbrev pub isLogSize : ℕ → Bool
-isLogSize n = leb 1 n && leb n 30
-
-unfoldable pub check : CanonicCoset → Check
-check c = rows (isLogSize (c .coset .«log_size»)) (hasIndices (c .coset)) (hasWords (c .coset))
 
 -- odds(n)
 unfoldable pub canonicOf : ℕ → CanonicCoset
@@ -42,35 +34,35 @@ unfoldable pub halfOf : ℕ → Coset
 halfOf n = cosetOf (subgroupGen (n - 1 + 2)) (n - 1)
 
 unfoldable pub tryNewAnswer : ℕ → CanonicCosetAnswer
-tryNewAnswer n = cond (isLogSize n) (Value (canonicOf n)) (Refused LogSize)
+tryNewAnswer n = checked (need (isLogSize n) LogSize) Refused (Value (canonicOf n))
 
 unfoldable pub cosetAnswer : CanonicCoset → CosetAnswer
-cosetAnswer c = passed (check c) C.Refused (C.Value (c .coset))
+cosetAnswer c = checked (checkCanonic c) C.Refused (C.Value (c .coset))
 
 -- by the log size alone
 unfoldable pub halfCosetAnswer : CanonicCoset → CosetAnswer
-halfCosetAnswer c = passed (check c) C.Refused (C.Value (halfOf (c .coset .«log_size»)))
+halfCosetAnswer c = checked (checkCanonic c) C.Refused (C.Value (halfOf (c .coset .«log_size»)))
 
 unfoldable pub circleDomainAnswer : CanonicCoset → CircleDomainAnswer
-circleDomainAnswer c = passed (check c) D.Refused (D.Value (ofHalf (halfOf (c .coset .«log_size»))))
+circleDomainAnswer c = checked (checkCanonic c) D.Refused (D.Value (ofHalf (halfOf (c .coset .«log_size»))))
 
 unfoldable pub logSizeAnswer : CanonicCoset → U32Answer
-logSizeAnswer c = passed (check c) U.Refused (U.Value (c .coset .«log_size»))
+logSizeAnswer c = checked (checkCanonic c) U.Refused (U.Value (c .coset .«log_size»))
 
 unfoldable pub sizeAnswer : CanonicCoset → U64Answer
-sizeAnswer c = passed (check c) L.Refused (L.Value (2 ^ c .coset .«log_size»))
+sizeAnswer c = checked (checkCanonic c) L.Refused (L.Value (2 ^ c .coset .«log_size»))
 
 unfoldable pub initialIndexAnswer : CanonicCoset → CirclePointIndexAnswer
-initialIndexAnswer c = passed (check c) I.Refused (I.Value (c .coset .«initial_index»))
+initialIndexAnswer c = checked (checkCanonic c) I.Refused (I.Value (c .coset .«initial_index»))
 
 unfoldable pub stepSizeAnswer : CanonicCoset → CirclePointIndexAnswer
-stepSizeAnswer c = passed (check c) I.Refused (I.Value (c .coset .«step_size»))
+stepSizeAnswer c = checked (checkCanonic c) I.Refused (I.Value (c .coset .«step_size»))
 
 unfoldable pub stepAnswer : CanonicCoset → CirclePointAnswer
-stepAnswer c = passed (check c) P.Refused (P.Value (c .coset .step))
+stepAnswer c = checked (checkCanonic c) P.Refused (P.Value (c .coset .step))
 
 unfoldable pub indexAtAnswer : CanonicCoset → ℕ → CirclePointIndexAnswer
-indexAtAnswer c i = passed (check c) I.Refused (I.Value (ofIndex (indexAt (c .coset) i)))
+indexAtAnswer c i = checked (checkCanonic c) I.Refused (I.Value (ofIndex (indexAt (c .coset) i)))
 
 unfoldable pub atAnswer : CanonicCoset → ℕ → CirclePointAnswer
-atAnswer c i = passed (check c) P.Refused (P.Value (ofPoint (indexPoint (indexAt (c .coset) i))))
+atAnswer c i = checked (checkCanonic c) P.Refused (P.Value (ofPoint (indexPoint (indexAt (c .coset) i))))

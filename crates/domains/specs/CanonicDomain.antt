@@ -1,32 +1,30 @@
 -- The canonic circle domain of log size n as the calls give it: the indices that it lists, in which order, and their points.
 use Prim.Native.Nat.{ℕ, suc, _+_, _-_, _*_, _%_, _^_, _≤_, _<_}
 use mathlib.Core.Path.{_≡_, sym, _∙_, ap, ap₂, subst}
-use mathlib.Core.Bool.{true, and-eq-true-iff}
 use native.Mathlib.Nat as N
 use native.Mathlib.Decide.{decLt}
 use native.Mathlib.Omega.{arith}
-use lib.Dec.{leb}
 use lib.Pow as W
-use borrow.Author.Tests.{le-leb}
+use Rattle.fields.specs.CheckLaws.{Hold, hold-passes}
+use Rattle.fields.specs.LogSizeLaws.{log-size-passes}
 use Rattle.fields.specs.declared.answer.U64Answer.the-variants as L
 use Rattle.circle.specs.Point.{ofPoint}
 use Rattle.circle.specs.Index.{ofIndex, indexPoint, negIndex, subgroupGen}
 use Rattle.circle.specs.declared.point.CirclePointAnswer.the-variants as P
 use Rattle.circle.specs.declared.index.CirclePointIndexAnswer.the-variants as I
-use Rattle.domains.specs.declared.record.Check.the-variants.{Passed}
 use Rattle.domains.specs.declared.canonic.CanonicCosetAnswer.the-variants as CA
 use Rattle.domains.specs.declared.domain.CircleDomainAnswer.the-variants as DA
 use Rattle.domains.specs.declared.iterator.CircleDomainIndexIteratorAnswer.the-variants as T
 use Rattle.domains.specs.declared.iterator.CircleDomainStep.the-variants.{Next, Done}
-use Rattle.domains.specs.Record.{passed}
+use Rattle.domains.specs.Record.{check, checkCanonic, Fits}
 use Rattle.domains.specs.Listing.{unit, cosetIndex, domainIndex}
-use Rattle.domains.specs.Coset.{hasIndices, hasWords, check, Fits, cosetOf, indexAt, conjugated}
+use Rattle.domains.specs.Coset.{cosetOf, indexAt, conjugated}
 use Rattle.domains.specs.Iterator.{domainNextAnswer}
 use Rattle.domains.specs.Domain.{ofHalf, sizeAnswer, indexAtAnswer, atAnswer, domainIndexAt, iterIndicesAnswer, domainIteratorOf}
-use Rattle.domains.specs.Canonic.{isLogSize, canonicOf, halfOf, tryNewAnswer, circleDomainAnswer}
+use Rattle.domains.specs.Canonic.{canonicOf, halfOf, tryNewAnswer, circleDomainAnswer}
 use Rattle.domains.specs.Domain as D
 use Rattle.domains.specs.Canonic as C
-use Rattle.domains.specs.CosetLaws.{rows-pass, indices-pass, words-pass, fits-passes, subgroup-gen-most, made-fits, conjugate-index}
+use Rattle.domains.specs.CosetLaws.{fits-hold, canonic-hold, subgroup-gen-index, made-fits, conjugate-index}
 use Rattle.domains.specs.IteratorLaws.{walkedIndex, walked-index, domainSteps, DomainWalk, domain-walk}
 use Rattle.domains.specs.ListingLaws.{two-halves, half-bound, domain-first, domain-second}
 use Rattle.domains.specs.PointSet.{PointSet, point-set}
@@ -53,22 +51,18 @@ pub record CanonicDomain (n : ℕ) : Type 0 where
 -- ---- proof
 
 module _ (n : ℕ) (lo : 1 ≤ n) (hi : n ≤ 30) where
-  log-size-passes : isLogSize n ≡ true
-  log-size-passes = and-eq-true-iff (leb 1 n) (leb n 30) .1 (le-leb 1 n lo, le-leb n 30 hi)
-
-  canonic-passes : C.check (canonicOf n) ≡ Passed
-  unfolding C.check canonicOf cosetOf
+  canonic-passes : Hold (checkCanonic (canonicOf n))
+  unfolding canonicOf cosetOf
   canonic-passes =
-      let f : Fits (cosetOf (subgroupGen (n + 1)) n) = made-fits (subgroupGen (n + 1)) n (subgroup-gen-most (n + 1)) (omega arith) in
-      rows-pass (isLogSize n) (hasIndices (canonicOf n .coset)) (hasWords (canonicOf n .coset)) log-size-passes
-      (indices-pass (cosetOf (subgroupGen (n + 1)) n) f) (words-pass (cosetOf (subgroupGen (n + 1)) n) f)
+      canonic-hold (canonicOf n)
+      (record { coset = made-fits (subgroupGen (n + 1)) n (subgroup-gen-index (n + 1)) (omega arith); least = lo; most = hi })
 
   half-fits : Fits (halfOf n)
   unfolding halfOf
-  half-fits = made-fits (subgroupGen (n - 1 + 2)) (n - 1) (subgroup-gen-most (n - 1 + 2)) (omega arith)
+  half-fits = made-fits (subgroupGen (n - 1 + 2)) (n - 1) (subgroup-gen-index (n - 1 + 2)) (omega arith)
 
-  half-passes : check (halfOf n) ≡ Passed
-  half-passes = fits-passes (halfOf n) half-fits
+  half-passes : Hold (check (halfOf n))
+  half-passes = fits-hold (halfOf n) half-fits
 
   -- h and 4h
   initial-unit : halfOf n .«initial_index» .0 ≡ unit n
@@ -118,7 +112,7 @@ module _ (n : ℕ) (lo : 1 ≤ n) (hi : n ≤ 30) where
   unfolding conjugated
   walked-second i h =
       walked-index (conjugated (halfOf n)) (omega arith) i
-      ∙ conjugate-index (halfOf n) i (half-fits .initialIndexFits) (half-fits .stepSizeFits) ∙ second-index i h
+      ∙ conjugate-index (halfOf n) i half-fits ∙ second-index i h
 
   all-steps : (i : ℕ) → i < 2 ^ n
       → domainNextAnswer (domainSteps i (domainIteratorOf (halfOf n))) ≡ Next (ofIndex (domainIndex n i)) (domainSteps (suc i) (domainIteratorOf (halfOf n)))
@@ -144,15 +138,15 @@ module _ (n : ℕ) (lo : 1 ≤ n) (hi : n ≤ 30) where
 
   made : tryNewAnswer n ≡ CA.Value (canonicOf n)
   unfolding tryNewAnswer
-  made = rw log-size-passes
+  made = rw (log-size-passes n lo hi)
 
   made-domain : circleDomainAnswer (canonicOf n) ≡ DA.Value (ofHalf (halfOf n))
-  unfolding circleDomainAnswer passed canonicOf cosetOf
-  made-domain = rw canonic-passes
+  unfolding circleDomainAnswer canonicOf cosetOf
+  made-domain = hold-passes (checkCanonic (canonicOf n)) DA.Refused (DA.Value (ofHalf (halfOf n))) canonic-passes
 
   coset-index : (k : ℕ) → C.indexAtAnswer (canonicOf n) k ≡ I.Value (ofIndex (cosetIndex n k))
-  unfolding C.indexAtAnswer passed canonicOf cosetOf indexAt
-  coset-index k = rw canonic-passes (ap (λ (t : ℕ). I.Value (ofIndex (t % 2 ^ 31))) same)
+  unfolding C.indexAtAnswer canonicOf cosetOf indexAt
+  coset-index k = hold-passes (checkCanonic (canonicOf n)) I.Refused _ canonic-passes ∙ ap (λ (t : ℕ). I.Value (ofIndex (t % 2 ^ 31))) same
     where
       same : 2 ^ (31 - (n + 1)) + 2 ^ (31 - n) * k ≡ unit n * (2 * k + 1)
       same =
@@ -161,20 +155,23 @@ module _ (n : ℕ) (lo : 1 ≤ n) (hi : n ≤ 30) where
           ap₂ (λ (s t : ℕ). 2 ^ s + 2 ^ t * k) initial step ∙ omega (arith, ap (λ (t : ℕ). t * k) (N.pow-succ' 2 (30 - n)))
 
   domain-size : sizeAnswer (ofHalf (halfOf n)) ≡ L.Value (2 ^ n)
-  unfolding sizeAnswer passed halfOf cosetOf
-  domain-size = rw half-passes (ap (λ (t : ℕ). L.Value (2 ^ t)) (omega arith))
+  unfolding sizeAnswer halfOf cosetOf
+  domain-size =
+      let size : n - 1 + 1 ≡ n = omega arith in
+      hold-passes (check (halfOf n)) L.Refused _ half-passes ∙ ap (λ (t : ℕ). L.Value (2 ^ t)) size
 
   index-answer : (i : ℕ) → i < 2 ^ n → indexAtAnswer (ofHalf (halfOf n)) i ≡ I.Value (ofIndex (domainIndex n i))
-  unfolding indexAtAnswer passed
-  index-answer i h = rw half-passes (ap (λ (t : ℕ). I.Value (ofIndex t)) (index-is i h))
+  unfolding indexAtAnswer
+  index-answer i h = hold-passes (check (halfOf n)) I.Refused _ half-passes ∙ ap (λ (t : ℕ). I.Value (ofIndex t)) (index-is i h)
 
   point-answer : (i : ℕ) → i < 2 ^ n → atAnswer (ofHalf (halfOf n)) i ≡ P.Value (ofPoint (indexPoint (domainIndex n i)))
-  unfolding atAnswer passed
-  point-answer i h = rw half-passes (ap (λ (t : ℕ). P.Value (ofPoint (indexPoint t))) (index-is i h))
+  unfolding atAnswer
+  point-answer i h = hold-passes (check (halfOf n)) P.Refused _ half-passes
+      ∙ ap (λ (t : ℕ). P.Value (ofPoint (indexPoint t))) (index-is i h)
 
   iterator-answer : iterIndicesAnswer (ofHalf (halfOf n)) ≡ T.Value (domainIteratorOf (halfOf n))
-  unfolding iterIndicesAnswer passed
-  iterator-answer = rw half-passes
+  unfolding iterIndicesAnswer
+  iterator-answer = hold-passes (check (halfOf n)) T.Refused _ half-passes
 
 pub canonic-domain : (n : ℕ) → 1 ≤ n → n ≤ 30 → CanonicDomain n
 canonic-domain n lo hi = record {

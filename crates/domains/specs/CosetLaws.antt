@@ -1,66 +1,81 @@
 -- Laws of coset records: those that the library makes pass the checks, and the conjugate's indices are the negatives.
 use Prim.Native.Nat.{ℕ, _+_, _-_, _*_, _/_, _%_, _^_, _≤_}
 use mathlib.Core.Path.{_≡_, ap}
-use mathlib.Core.Bool.{Bool, true, _&&_, and-eq-true-iff}
+use mathlib.Core.Bool.{true, and-eq-true-iff}
+use mathlib.Core.List.{_++_}
 use native.Mathlib.Nat as N
 use native.Mathlib.Omega.{arith}
-use lib.Dec.{leb, ltb, lit<}
+use lib.Dec.{ltb, lit<}
 use borrow.Author.Tests.{le-leb, lt-ltb}
-use Rattle.algebra.specs.M31.{P}
+use Rattle.algebra.specs.M31 as M31
+use Rattle.fields.specs.Check.{need}
+use Rattle.fields.specs.CheckLaws.{Hold, hold-both}
+use Rattle.fields.specs.LogSize.{isLogSize}
+use Rattle.fields.specs.LogSizeLaws.{log-size-passes}
+use Rattle.fields.specs.declared.refusal.Refusal.the-variants.{LogSize}
 use Rattle.circle.specs.Point.{Reduced, reduced}
+use Rattle.circle.specs.Point as P
 use Rattle.circle.specs.IndexPoints.{index-below}
+use Rattle.circle.specs.AnswerLaws.{index-passes}
 use Rattle.circle.specs.declared.point.CirclePoint.{CirclePoint}
-use Rattle.circle.specs.Index.{negIndex, subgroupGen}
-use Rattle.domains.specs.declared.record.Check.the-variants.{Passed}
+use Rattle.circle.specs.Index.{ofIndex, IsIndex, inRange, negIndex, subgroupGen}
 use Rattle.domains.specs.declared.coset.Coset.{Coset}
-use Rattle.domains.specs.Record.{rows}
-use Rattle.domains.specs.Coset.{hasLogSize, hasIndices, hasWords, check, checkTwo, Fits, cosetOf, indexAt, conjugated}
+use Rattle.domains.specs.declared.canonic.CanonicCoset.{CanonicCoset}
+use Rattle.domains.specs.Record.{logSize, indices, words, check, checkCanonic, checkTwo, Fits, FitsCanonic}
+use Rattle.domains.specs.Coset.{cosetOf, indexAt, conjugated}
 
--- ---- the checks
-
-pub rows-pass : (a b c : Bool) → a ≡ true → b ≡ true → c ≡ true → rows a b c ≡ Passed
-unfolding rows
-rows-pass a b c e f g = rw (e, f, g)
+-- ---- records that fit pass
 
 point-passes : (p : CirclePoint) → Reduced p → reduced p ≡ true
-point-passes p h = and-eq-true-iff (ltb (p .x .0) P) (ltb (p .y .0) P) .1 (lt-ltb (p .x .0) P (h .0), lt-ltb (p .y .0) P (h .1))
+point-passes p h = and-eq-true-iff (ltb (p .x .0) M31.P) (ltb (p .y .0) M31.P) .1
+    (lt-ltb (p .x .0) M31.P (h .0), lt-ltb (p .y .0) M31.P (h .1))
 
 module _ (c : Coset) (f : Fits c) where
-  log-size-passes : hasLogSize c ≡ true
-  log-size-passes = le-leb (c .«log_size») 31 (f .logSizeFits)
+  size-holds : Hold (logSize c)
+  size-holds = (le-leb (c .«log_size») 31 (f .logSizeFits), tt)
 
-  pub indices-pass : hasIndices c ≡ true
-  indices-pass =
-      and-eq-true-iff (leb (c .«initial_index» .0) (2 ^ 31)) (leb (c .«step_size» .0) (2 ^ 31)) .1
-      (le-leb (c .«initial_index» .0) (2 ^ 31) (f .initialIndexFits), le-leb (c .«step_size» .0) (2 ^ 31) (f .stepSizeFits))
+  indices-hold : Hold (indices c)
+  indices-hold =
+      hold-both (inRange (c .«initial_index»)) (inRange (c .«step_size»))
+      (index-passes (c .«initial_index») (f .initialIndexFits), tt) (index-passes (c .«step_size») (f .stepSizeFits), tt)
 
-  pub words-pass : hasWords c ≡ true
-  words-pass = and-eq-true-iff (reduced (c .initial)) (reduced (c .step)) .1 (point-passes (c .initial) (f .initialReduced), point-passes (c .step) (f .stepReduced))
+  words-hold : Hold (words c)
+  words-hold =
+      hold-both (P.words (c .initial)) (P.words (c .step))
+      (point-passes (c .initial) (f .initialReduced), tt) (point-passes (c .step) (f .stepReduced), tt)
 
-  pub fits-passes : check c ≡ Passed
+  pub fits-hold : Hold (check c)
   unfolding check
-  fits-passes = rows-pass (hasLogSize c) (hasIndices c) (hasWords c) log-size-passes indices-pass words-pass
+  fits-hold = hold-both (logSize c) (indices c ++ words c) size-holds (hold-both (indices c) (words c) indices-hold words-hold)
+
+pub canonic-hold : (c : CanonicCoset) → FitsCanonic c → Hold (checkCanonic c)
+unfolding checkCanonic
+canonic-hold c f =
+    hold-both (need (isLogSize (c .coset .«log_size»)) LogSize) (indices (c .coset) ++ words (c .coset))
+    (log-size-passes (c .coset .«log_size») (f .least) (f .most), tt)
+    (hold-both (indices (c .coset)) (words (c .coset)) (indices-hold (c .coset) (f .coset)) (words-hold (c .coset) (f .coset)))
 
 -- two records that fit
-pub two-pass : (c d : Coset) → Fits c → Fits d → checkTwo c d ≡ Passed
+pub two-hold : (c d : Coset) → Fits c → Fits d → Hold (checkTwo c d)
 unfolding checkTwo
-two-pass c d f g =
-    rows-pass (hasLogSize c && hasLogSize d) (hasIndices c && hasIndices d) (hasWords c && hasWords d)
-    (and-eq-true-iff (hasLogSize c) (hasLogSize d) .1 (log-size-passes c f, log-size-passes d g))
-    (and-eq-true-iff (hasIndices c) (hasIndices d) .1 (indices-pass c f, indices-pass d g))
-    (and-eq-true-iff (hasWords c) (hasWords d) .1 (words-pass c f, words-pass d g))
+two-hold c d f g =
+    hold-both (logSize c ++ logSize d) ((indices c ++ indices d) ++ (words c ++ words d))
+    (hold-both (logSize c) (logSize d) (size-holds c f) (size-holds d g))
+    (hold-both (indices c ++ indices d) (words c ++ words d)
+    (hold-both (indices c) (indices d) (indices-hold c f) (indices-hold d g))
+    (hold-both (words c) (words d) (words-hold c f) (words-hold d g)))
 
 -- ---- cosets that the library makes
 
-pub subgroup-gen-most : (n : ℕ) → subgroupGen n ≤ 2 ^ 31
-subgroup-gen-most n = N.pow-le-pow-right {n = 2} (lit< tt) {i = 31 - n} {j = 31} (omega arith)
+pub subgroup-gen-index : (n : ℕ) → IsIndex (ofIndex (subgroupGen n))
+subgroup-gen-index n = N.pow-le-pow-right {n = 2} (lit< tt) {i = 31 - n} {j = 31} (omega arith)
 
-pub made-fits : (k n : ℕ) → k ≤ 2 ^ 31 → n ≤ 31 → Fits (cosetOf k n)
+pub made-fits : (k n : ℕ) → IsIndex (ofIndex k) → n ≤ 31 → Fits (cosetOf k n)
 unfolding cosetOf
 made-fits k n h l = record {
   logSizeFits = l;
   initialIndexFits = h;
-  stepSizeFits = subgroup-gen-most n;
+  stepSizeFits = subgroup-gen-index n;
   initialReduced = index-below k;
   stepReduced = index-below (subgroupGen n);
 }
@@ -68,25 +83,30 @@ made-fits k n h l = record {
 -- ---- the conjugate
 
 -- an index and its negative make whole turns
-opposite : (k : ℕ) → k ≤ 2 ^ 31 → k + negIndex k ≡ 2 ^ 31 * ((k + negIndex k) / 2 ^ 31)
+opposite : (k : ℕ) → IsIndex (ofIndex k) → k + negIndex k ≡ 2 ^ 31 * ((k + negIndex k) / 2 ^ 31)
 opposite k h = omega arith
 
 whole-turns : (x y turns : ℕ) → x + y ≡ 2 ^ 31 * turns → y % 2 ^ 31 ≡ negIndex (x % 2 ^ 31)
 whole-turns x y turns e = omega arith
 
+pub neg-index : (k : ℕ) → IsIndex (ofIndex (negIndex k))
+neg-index k = omega arith
+
 pub conjugate-fits : (c : Coset) → c .«log_size» ≤ 31 → Fits (conjugated c)
 unfolding conjugated
 conjugate-fits c h = record {
   logSizeFits = h;
-  initialIndexFits = omega arith;
-  stepSizeFits = omega arith;
+  initialIndexFits = neg-index (c .«initial_index» .0);
+  stepSizeFits = neg-index (c .«step_size» .0);
   initialReduced = index-below (negIndex (c .«initial_index» .0));
   stepReduced = index-below (negIndex (c .«step_size» .0));
 }
 
-pub conjugate-index : (c : Coset) (i : ℕ) → c .«initial_index» .0 ≤ 2 ^ 31 → c .«step_size» .0 ≤ 2 ^ 31 → indexAt (conjugated c) i ≡ negIndex (indexAt c i)
+pub conjugate-index : (c : Coset) (i : ℕ) → Fits c → indexAt (conjugated c) i ≡ negIndex (indexAt c i)
 unfolding indexAt conjugated
-conjugate-index c i h l = whole-turns (k + s * i) (negIndex k + negIndex s * i) (turns k + turns s * i) (sum (opposite k h) (opposite s l))
+conjugate-index c i f =
+    whole-turns (k + s * i) (negIndex k + negIndex s * i) (turns k + turns s * i)
+    (sum (opposite k (f .initialIndexFits)) (opposite s (f .stepSizeFits)))
   where
     k : ℕ
     k = c .«initial_index» .0

@@ -3,10 +3,11 @@ use Prim.Native.Nat.{ℕ, _+_, _-_, _*_, _%_, _^_, _≤_, _<_}
 use mathlib.Core.Path.{_≡_}
 use mathlib.Core.Bool.{cond}
 use mathlib.Core.List.{List, _++_}
-use lib.Dec.{ltb, eqb}
+use lib.Dec.{leb, ltb, eqb}
 use lib.ListN.{drop}
 use borrow.Author.Tests.{lt-ltb, le-ltb}
 use Rattle.algebra.specs.Listing.{listing}
+use Rattle.fields.specs.Check.{need, checked}
 use Rattle.fields.specs.declared.refusal.Refusal.the-variants.{Length, Doublings}
 use Rattle.fields.specs.declared.answer.U64Answer.{U64Answer}
 use Rattle.fields.specs.declared.answer.U64Answer.the-variants as L
@@ -28,54 +29,54 @@ use Rattle.domains.specs.declared.domain.CircleDomainAnswer.the-variants
 use Rattle.domains.specs.declared.iterator.CircleDomainIndexIterator.{CircleDomainIndexIterator}
 use Rattle.domains.specs.declared.iterator.CircleDomainIndexIteratorAnswer.{CircleDomainIndexIteratorAnswer}
 use Rattle.domains.specs.declared.iterator.CircleDomainIndexIteratorAnswer.the-variants as T
-use Rattle.domains.specs.Record.{passed}
-use Rattle.domains.specs.Coset.{check, checkWithIndex, cosetOf, indexAt, shifted, conjugated, iteratorOf}
+use Rattle.domains.specs.Record.{check, checkWithIndex}
+use Rattle.domains.specs.Coset.{cosetOf, indexAt, shifted, conjugated, iteratorOf}
 
 abbrev pub ofHalf : Coset → CircleDomain
 ofHalf c = record { «half_coset» = c }
 
 unfoldable pub newAnswer : Coset → CircleDomainAnswer
-newAnswer c = passed (check c) Refused (Value (ofHalf c))
+newAnswer c = checked (check c) Refused (Value (ofHalf c))
 
 -- 2^32 for a half coset of log size 31
 unfoldable pub sizeAnswer : CircleDomain → U64Answer
-sizeAnswer d = passed (check (d .«half_coset»)) L.Refused (L.Value (2 ^ (d .«half_coset» .«log_size» + 1)))
+sizeAnswer d = checked (check (d .«half_coset»)) L.Refused (L.Value (2 ^ (d .«half_coset» .«log_size» + 1)))
 
 unfoldable pub logSizeAnswer : CircleDomain → U32Answer
-logSizeAnswer d = passed (check (d .«half_coset»)) U.Refused (U.Value (d .«half_coset» .«log_size» + 1))
+logSizeAnswer d = checked (check (d .«half_coset»)) U.Refused (U.Value (d .«half_coset» .«log_size» + 1))
 
 -- the half coset's indices, and from its size on the negatives, for any i
 unfoldable pub domainIndexAt : Coset → ℕ → ℕ
 domainIndexAt c i = cond (ltb i (2 ^ c .«log_size»)) (indexAt c i) (negIndex (indexAt c (i - 2 ^ c .«log_size»)))
 
 unfoldable pub indexAtAnswer : CircleDomain → ℕ → CirclePointIndexAnswer
-indexAtAnswer d i = passed (check (d .«half_coset»)) I.Refused (I.Value (ofIndex (domainIndexAt (d .«half_coset») i)))
+indexAtAnswer d i = checked (check (d .«half_coset»)) I.Refused (I.Value (ofIndex (domainIndexAt (d .«half_coset») i)))
 
 unfoldable pub atAnswer : CircleDomain → ℕ → CirclePointAnswer
-atAnswer d i = passed (check (d .«half_coset»)) P.Refused (P.Value (ofPoint (indexPoint (domainIndexAt (d .«half_coset») i))))
+atAnswer d i = checked (check (d .«half_coset»)) P.Refused (P.Value (ofPoint (indexPoint (domainIndexAt (d .«half_coset») i))))
 
 -- whether 4 times the initial index, reduced, equals the step
 unfoldable pub isCanonicAnswer : CircleDomain → BoolAnswer
 isCanonicAnswer d =
-    passed (check (d .«half_coset»)) B.Refused (B.Value (eqb ((d .«half_coset» .«initial_index» .0 * 4) % 2 ^ 31) (d .«half_coset» .«step_size» .0)))
+    checked (check (d .«half_coset»)) B.Refused
+    (B.Value (eqb ((d .«half_coset» .«initial_index» .0 * 4) % 2 ^ 31) (d .«half_coset» .«step_size» .0)))
 
 -- the half coset's iterator, then the conjugate's
 unfoldable pub domainIteratorOf : Coset → CircleDomainIndexIterator
 domainIteratorOf c = record { first = iteratorOf c; second = iteratorOf (conjugated c) }
 
 unfoldable pub iterIndicesAnswer : CircleDomain → CircleDomainIndexIteratorAnswer
-iterIndicesAnswer d = passed (check (d .«half_coset»)) T.Refused (T.Value (domainIteratorOf (d .«half_coset»)))
+iterIndicesAnswer d = checked (check (d .«half_coset»)) T.Refused (T.Value (domainIteratorOf (d .«half_coset»)))
 
 unfoldable pub shiftAnswer : CircleDomain → CirclePointIndex → CircleDomainAnswer
-shiftAnswer d k = passed (checkWithIndex (d .«half_coset») (k .0)) Refused (Value (ofHalf (shifted (d .«half_coset») (k .0))))
+shiftAnswer d k = checked (checkWithIndex (d .«half_coset») k) Refused (Value (ofHalf (shifted (d .«half_coset») (k .0))))
 
--- into 2^n parts, the shifts into so many words: number 7 for more parts than the half coset has points, then number 8 for
--- too few words
+-- into 2^n parts, the shifts into so many words: no more parts than the half coset has points, else number 7; then no fewer
+-- words than parts, else number 8
 unfoldable pub splitAnswer : CircleDomain → ℕ → ℕ → CircleDomainAnswer
 splitAnswer d n words =
-    passed (check (d .«half_coset»)) Refused
-    (cond (ltb (d .«half_coset» .«log_size») n) (Refused Doublings)
-    (cond (ltb words (2 ^ n)) (Refused Length) (Value (ofHalf (cosetOf (d .«half_coset» .«initial_index» .0) (d .«half_coset» .«log_size» - n))))))
+    checked (check (d .«half_coset») ++ (need (leb n (d .«half_coset» .«log_size»)) Doublings ++ need (leb (2 ^ n) words) Length)) Refused
+    (Value (ofHalf (cosetOf (d .«half_coset» .«initial_index» .0) (d .«half_coset» .«log_size» - n))))
 
 -- what a call with this answer leaves in the lent slice: the step times 0, 1, .., reduced
 unfoldable pub splitExit : CircleDomainAnswer → CircleDomain → ℕ → List ℕ → List ℕ

@@ -5,9 +5,11 @@ use mathlib.Core.Bool.{true, false}
 use native.Mathlib.Nat as N
 use native.Mathlib.Omega.{arith}
 use lib.Dec.{eqb}
-use borrow.Author.Tests.{le-leb, eq-eqb, ne-eqb}
+use borrow.Author.Tests.{eq-eqb, ne-eqb}
 use Rattle.algebra.specs.Doubling.{iterate, iterate-suc, iterate-add}
-use Rattle.circle.specs.Index.{ofIndex}
+use Rattle.fields.specs.CheckLaws.{Hold, hold-both, hold-passes}
+use Rattle.circle.specs.Index.{ofIndex, IsIndex, inRange}
+use Rattle.circle.specs.AnswerLaws.{index-passes}
 use Rattle.domains.specs.declared.coset.Coset.{Coset}
 use Rattle.domains.specs.declared.iterator.CosetIterator.{CosetIterator}
 use Rattle.domains.specs.declared.iterator.CosetStep.{CosetStep}
@@ -15,9 +17,10 @@ use Rattle.domains.specs.declared.iterator.CosetStep.the-variants.{Next,
 use Rattle.domains.specs.declared.iterator.CircleDomainIndexIterator.{CircleDomainIndexIterator}
 use Rattle.domains.specs.declared.iterator.CircleDomainStep.{CircleDomainStep}
 use Rattle.domains.specs.declared.iterator.CircleDomainStep.the-variants as D
-use Rattle.domains.specs.Coset.{Fits, indexAt, conjugated, iteratorOf}
+use Rattle.domains.specs.Record.{Fits}
+use Rattle.domains.specs.Coset.{indexAt, conjugated, iteratorOf}
 use Rattle.domains.specs.CosetLaws.{conjugate-fits}
-use Rattle.domains.specs.Iterator.{hasIndices, advanced, nextAnswer, domainNextAnswer}
+use Rattle.domains.specs.Iterator.{check, checkBoth, advanced, nextAnswer, domainNextAnswer}
 use Rattle.domains.specs.Domain.{domainIteratorOf}
 
 -- the iterator that a step hands back; itself where the step is refused
@@ -87,7 +90,7 @@ unfolding stateAt
 current c k = refl
 
 module _ (c : Coset) (f : Fits c) where
-  walked-most : (k : ℕ) → walkedIndex c k ≤ 2 ^ 31
+  walked-most : (k : ℕ) → IsIndex (ofIndex (walkedIndex c k))
   unfolding walkedIndex indexAt
   walked-most zero = f .initialIndexFits
   walked-most (suc k) = omega arith
@@ -96,9 +99,11 @@ module _ (c : Coset) (f : Fits c) where
   unfolding stateAt walkedIndex iteratorOf
   start = λ i. record { cur = ofIndex (c .«initial_index» .0); step = c .«step_size»; remaining = sym (N.sub-zero (2 ^ c .«log_size»)) i }
 
-  state-passes : (k : ℕ) → hasIndices (stateAt c k) ≡ true
-  unfolding stateAt
-  state-passes k = rw (le-leb (walkedIndex c k) (2 ^ 31) (walked-most k), le-leb (c .«step_size» .0) (2 ^ 31) (f .stepSizeFits))
+  state-holds : (k : ℕ) → Hold (check (stateAt c k))
+  unfolding check stateAt
+  state-holds k =
+      hold-both (inRange (ofIndex (walkedIndex c k))) (inRange (c .«step_size»))
+      (index-passes (ofIndex (walkedIndex c k)) (walked-most k), tt) (index-passes (c .«step_size») (f .stepSizeFits), tt)
 
   further : (k : ℕ) → (walkedIndex c k + c .«step_size» .0) % 2 ^ 31 ≡ walkedIndex c (suc k)
   unfolding walkedIndex indexAt
@@ -121,11 +126,12 @@ module _ (c : Coset) (f : Fits c) where
 
   state-step : (k : ℕ) → k < 2 ^ c .«log_size» → nextAnswer (stateAt c k) ≡ Next (ofIndex (walkedIndex c k)) (stateAt c (suc k))
   unfolding nextAnswer
-  state-step k h = rw (state-passes k, some-left k h) (λ i. Next (current c k i) (state-next k h i))
+  state-step k h =
+      hold-passes (check (stateAt c k)) Refused _ (state-holds k) ∙ rw (some-left k h) (λ i. Next (current c k i) (state-next k h i))
 
   state-done : nextAnswer (stateAt c (2 ^ c .«log_size»)) ≡ Done (stateAt c (2 ^ c .«log_size»))
   unfolding nextAnswer
-  state-done = rw (state-passes (2 ^ c .«log_size»), none-left)
+  state-done = hold-passes (check (stateAt c (2 ^ c .«log_size»))) Refused _ (state-holds (2 ^ c .«log_size»)) ∙ rw none-left
 
   state-after : (k : ℕ) → k < 2 ^ c .«log_size» → after (stateAt c k) (nextAnswer (stateAt c k)) ≡ stateAt c (suc k)
   unfolding after
@@ -168,19 +174,28 @@ module _ (c : Coset) (f : Fits c) where
   abbrev move : CircleDomainIndexIterator → CircleDomainIndexIterator
   move it = domainAfter it (domainNextAnswer it)
 
+  both-hold : (j k : ℕ) → Hold (checkBoth (pair (stateAt c j) (stateAt (conjugated c) k)))
+  unfolding check checkBoth
+  both-hold j k = hold-both (check (stateAt c j)) (check (stateAt (conjugated c) k)) (state-holds c f j) (state-holds (conjugated c) g k)
+
   first-step : (k : ℕ) → k < 2 ^ c .«log_size» → domainNextAnswer (firstAt k) ≡ D.Next (ofIndex (walkedIndex c k)) (firstAt (suc k))
   unfolding domainNextAnswer walkedIndex
-  first-step k h = rw (state-passes c f k, state-passes (conjugated c) g 0, some-left c f k h) (λ i. D.Next (current c k i) (pair (state-next c f k h i) (stateAt (conjugated c) 0)))
+  first-step k h =
+      hold-passes (checkBoth (firstAt k)) D.Refused _ (both-hold k 0)
+      ∙ rw (some-left c f k h) (λ i. D.Next (current c k i) (pair (state-next c f k h i) (stateAt (conjugated c) 0)))
 
   second-step : (k : ℕ) → k < 2 ^ c .«log_size» → domainNextAnswer (secondAt k) ≡ D.Next (ofIndex (walkedIndex (conjugated c) k)) (secondAt (suc k))
   unfolding domainNextAnswer conjugated walkedIndex
   second-step k h =
-      rw (state-passes c f (2 ^ c .«log_size»), state-passes (conjugated c) g k, none-left c f, some-left (conjugated c) g k h)
+      hold-passes (checkBoth (secondAt k)) D.Refused _ (both-hold (2 ^ c .«log_size») k)
+      ∙ rw (none-left c f, some-left (conjugated c) g k h)
       (λ i. D.Next (current (conjugated c) k i) (pair (stateAt c (2 ^ c .«log_size»)) (state-next (conjugated c) g k h i)))
 
   last-step : domainNextAnswer (secondAt (2 ^ c .«log_size»)) ≡ D.Done (secondAt (2 ^ c .«log_size»))
   unfolding domainNextAnswer conjugated
-  last-step = rw (state-passes c f (2 ^ c .«log_size»), state-passes (conjugated c) g (2 ^ c .«log_size»), none-left c f, none-left (conjugated c) g)
+  last-step =
+      hold-passes (checkBoth (secondAt (2 ^ c .«log_size»))) D.Refused _ (both-hold (2 ^ c .«log_size») (2 ^ c .«log_size»))
+      ∙ rw (none-left c f, none-left (conjugated c) g)
 
   first-move : (k : ℕ) → k < 2 ^ c .«log_size» → move (firstAt k) ≡ firstAt (suc k)
   unfolding domainAfter

@@ -37,7 +37,7 @@ module _ (n : ℕ) (lo : 1 ≤ n) (hi : n ≤ 30) where
   pub domain-first : (i : ℕ) → i < 2 ^ (n - 1) → domainIndex n i ≡ unit n + 4 * unit n * i
   unfolding domainIndices
   domain-first i h =
-      List·getD-append (halfIndices n) (map negIndex (halfIndices n)) 0 i (omega (arith, half-length))
+      List·getD-append (halfIndices n) _ 0 i (omega (arith, half-length))
       ∙ listing-at 0 (2 ^ (n - 1)) (λ i. unit n + 4 * unit n * i) i h
 
   pub domain-second : (i : ℕ) → i < 2 ^ (n - 1) → domainIndex n (2 ^ (n - 1) + i) ≡ 2 ^ 31 - (unit n + 4 * unit n * i)

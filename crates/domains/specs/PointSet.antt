@@ -1,5 +1,5 @@
--- Which points the canonic circle domain of log size n holds: 2^n different ones, and exactly those of the circle whose x
--- becomes 0 in n - 1 doublings.
+-- Which points the canonic circle domain of log size n holds: 2^n different ones, x and y below P, and exactly those of the
+-- circle whose x becomes 0 in n - 1 doublings.
 use Prim.Native.Nat.{ℕ, _+_, _-_, _*_, _/_, _%_, _^_, _≤_, _<_}
 use mathlib.Core.Path.{_≡_, sym, _∙_, ap}
 use mathlib.Core.Logic.{_↔_}
@@ -18,7 +18,7 @@ use Rattle.fields.specs.Words.{words31}
 use Rattle.fields.specs.Elements.{element-homomorphism}
 use Rattle.fields.specs.Inverse.{m31-representation}
 use Rattle.circle.specs.Index.{indexPoint}
-use Rattle.circle.specs.IndexPoints.{to-index-point, index-unique, index-equal, index-reduce}
+use Rattle.circle.specs.IndexPoints.{to-index-point, index-below, index-unique, index-equal, index-reduce}
 use Rattle.circle.specs.LogOrder.{doubled-x-below, to-doubled-x}
 use Rattle.orders.specs.Orders.{toDomain, toCoset}
 use Rattle.orders.specs.OrderLaws.{to-domain-below, to-domain-to-coset}
@@ -29,6 +29,8 @@ use Rattle.domains.specs.ListingLaws.{two-halves, unit-half, even-size, 
 pub record PointSet (n : ℕ) : Type 0 where
   -- 2^n indices
   pub size : length (domainIndices n) ≡ 2 ^ n
+  -- their points are pairs of words below P
+  pub below : (i : ℕ) → i < 2 ^ n → (indexPoint (domainIndex n i) .0 < P) × (indexPoint (domainIndex n i) .1 < P)
   -- their points are all different
   pub apart : (i j : ℕ) → i < 2 ^ n → j < 2 ^ n → indexPoint (domainIndex n i) ≡ indexPoint (domainIndex n j) → i ≡ j
   -- (x, y) is one of them exactly where x² + y² = 1 and x, put n - 1 times through 2x² - 1, gives 0, modulo P
@@ -108,4 +110,9 @@ module _ (n : ℕ) (lo : 1 ≤ n) (hi : n ≤ 30) where
         (λ r. to-words (odd .0 (is-odd r)), λ r. is-element (odd .1 (to-field r)))
 
 pub point-set : (n : ℕ) → 1 ≤ n → n ≤ 30 → PointSet n
-point-set n lo hi = record { size = domain-length n lo hi; apart = points-apart n lo hi; exactly = points-exactly n lo hi }
+point-set n lo hi = record {
+  size = domain-length n lo hi;
+  below = λ i h. index-below (domainIndex n i);
+  apart = points-apart n lo hi;
+  exactly = points-exactly n lo hi;
+}

@@ -1,27 +1,21 @@
 // Canonic cosets G_2n + <G_n> (stwo's CanonicCoset).
 ghost use mathlib.Core.Path.{_≡_};
-ghost use Rattle.domains.specs.Canonic.{isLogSize, check, tryNewAnswer, cosetAnswer, halfCosetAnswer, circleDomainAnswer, logSizeAnswer, sizeAnswer, initialIndexAnswer, stepSizeAnswer, stepAnswer, indexAtAnswer, atAnswer};
+ghost use Rattle.domains.specs.Canonic.{tryNewAnswer, cosetAnswer, halfCosetAnswer, circleDomainAnswer, logSizeAnswer, sizeAnswer, initialIndexAnswer, stepSizeAnswer, stepAnswer, indexAtAnswer, atAnswer};
 use crate::coset::Coset;
 use crate::coset::CosetAnswer;
 use crate::coset::inner;
 use crate::domain::CircleDomain;
 use crate::domain::CircleDomainAnswer;
-use crate::domain::MIN_CIRCLE_DOMAIN_LOG_SIZE;
-use crate::record::Check;
-use crate::record::both;
-use crate::record::rows;
-use circle::index::CirclePointIndex;
+use crate::record::check_canonic;
 use circle::index::CirclePointIndexAnswer;
 use circle::index::inner as index;
 use circle::point::CirclePointAnswer;
-use circle::point::M31_CIRCLE_LOG_ORDER;
 use fields::answer::U32Answer;
 use fields::answer::U64Answer;
+use fields::check::Check;
+use fields::log_size::inner::two_to;
+use fields::log_size::is_log_size;
 use fields::refusal::Refusal;
-use orders::utils::inner::two_to;
-
-// The coset of 2^n points is shifted by the generator of 2^(n + 1).
-const MAX_CANONICAL_COSET_LOG_SIZE: u32 = M31_CIRCLE_LOG_ORDER - 1;
 
 pub struct CanonicCoset {
     pub coset: Coset,
@@ -30,26 +24,6 @@ pub struct CanonicCoset {
 pub enum CanonicCosetAnswer {
     Value(CanonicCoset),
     Refused(Refusal),
-}
-
-fn is_log_size(log_size: u32) -> bool
-    ensures { λ r. ⌜ r ≡ isLogSize «log_size» ⌝ }
-{
-    both(
-        MIN_CIRCLE_DOMAIN_LOG_SIZE <= log_size,
-        log_size <= MAX_CANONICAL_COSET_LOG_SIZE,
-    )
-}
-
-fn check(c: CanonicCoset) -> Check
-    ensures { λ r. ⌜ r ≡ check c ⌝ }
-{
-    let coset = c.coset;
-    rows(
-        is_log_size(coset.log_size),
-        inner::has_indices(coset),
-        inner::has_words(coset),
-    )
 }
 
 impl CanonicCoset {
@@ -73,7 +47,7 @@ impl CanonicCoset {
     pub fn coset(self) -> CosetAnswer
         ensures { λ r. ⌜ r ≡ cosetAnswer self ⌝ }
     {
-        let record = check(self);
+        let record = check_canonic(self);
         if let Check::Refused(why) = record {
             return CosetAnswer::Refused(why);
         }
@@ -85,7 +59,7 @@ impl CanonicCoset {
     pub fn half_coset(self) -> CosetAnswer
         ensures { λ r. ⌜ r ≡ halfCosetAnswer self ⌝ }
     {
-        let record = check(self);
+        let record = check_canonic(self);
         if let Check::Refused(why) = record {
             return CosetAnswer::Refused(why);
         }
@@ -96,7 +70,7 @@ impl CanonicCoset {
     pub fn circle_domain(self) -> CircleDomainAnswer
         ensures { λ r. ⌜ r ≡ circleDomainAnswer self ⌝ }
     {
-        let record = check(self);
+        let record = check_canonic(self);
         if let Check::Refused(why) = record {
             return CircleDomainAnswer::Refused(why);
         }
@@ -107,7 +81,7 @@ impl CanonicCoset {
     pub fn log_size(self) -> U32Answer
         ensures { λ r. ⌜ r ≡ logSizeAnswer self ⌝ }
     {
-        let record = check(self);
+        let record = check_canonic(self);
         if let Check::Refused(why) = record {
             return U32Answer::Refused(why);
         }
@@ -117,7 +91,7 @@ impl CanonicCoset {
     pub fn size(self) -> U64Answer
         ensures { λ r. ⌜ r ≡ sizeAnswer self ⌝ }
     {
-        let record = check(self);
+        let record = check_canonic(self);
         if let Check::Refused(why) = record {
             return U64Answer::Refused(why);
         }
@@ -127,7 +101,7 @@ impl CanonicCoset {
     pub fn initial_index(self) -> CirclePointIndexAnswer
         ensures { λ r. ⌜ r ≡ initialIndexAnswer self ⌝ }
     {
-        let record = check(self);
+        let record = check_canonic(self);
         if let Check::Refused(why) = record {
             return CirclePointIndexAnswer::Refused(why);
         }
@@ -138,7 +112,7 @@ impl CanonicCoset {
     pub fn step_size(self) -> CirclePointIndexAnswer
         ensures { λ r. ⌜ r ≡ stepSizeAnswer self ⌝ }
     {
-        let record = check(self);
+        let record = check_canonic(self);
         if let Check::Refused(why) = record {
             return CirclePointIndexAnswer::Refused(why);
         }
@@ -149,7 +123,7 @@ impl CanonicCoset {
     pub fn step(self) -> CirclePointAnswer
         ensures { λ r. ⌜ r ≡ stepAnswer self ⌝ }
     {
-        let record = check(self);
+        let record = check_canonic(self);
         if let Check::Refused(why) = record {
             return CirclePointAnswer::Refused(why);
         }
@@ -160,18 +134,18 @@ impl CanonicCoset {
     pub fn index_at(self, i: u64) -> CirclePointIndexAnswer
         ensures { λ r. ⌜ r ≡ indexAtAnswer self i ⌝ }
     {
-        let record = check(self);
+        let record = check_canonic(self);
         if let Check::Refused(why) = record {
             return CirclePointIndexAnswer::Refused(why);
         }
         let coset = self.coset;
-        CirclePointIndexAnswer::Value(CirclePointIndex(inner::index_at(coset, i)))
+        CirclePointIndexAnswer::Value(inner::index_at(coset, i))
     }
 
     pub fn at(self, i: u64) -> CirclePointAnswer
         ensures { λ r. ⌜ r ≡ atAnswer self i ⌝ }
     {
-        let record = check(self);
+        let record = check_canonic(self);
         if let Check::Refused(why) = record {
             return CirclePointAnswer::Refused(why);
         }

@@ -3,7 +3,9 @@
 ghost use mathlib.Core.Path.{_≡_};
 ghost use Rattle.domains.specs.Coset.{newAnswer, subgroupAnswer, oddsAnswer, halfOddsAnswer, sizeAnswer, logSizeAnswer, iterIndicesAnswer, doubleAnswer, repeatedDoubleAnswer, isDoublingOfAnswer, initialAnswer, indexAtAnswer, atAnswer, shiftAnswer, conjugateAnswer};
 use crate::iterator::CosetIteratorAnswer;
-use crate::record::Check;
+use crate::record::check;
+use crate::record::check_two;
+use crate::record::check_with_index;
 use circle::index::CirclePointIndex;
 use circle::index::CirclePointIndexAnswer;
 use circle::index::inner as index;
@@ -13,8 +15,9 @@ use circle::point::M31_CIRCLE_LOG_ORDER;
 use fields::answer::BoolAnswer;
 use fields::answer::U32Answer;
 use fields::answer::U64Answer;
+use fields::check::Check;
+use fields::log_size::inner::two_to;
 use fields::refusal::Refusal;
-use orders::utils::inner::two_to;
 
 pub mod inner;
 
@@ -38,10 +41,10 @@ impl Coset {
         if M31_CIRCLE_LOG_ORDER < log_size {
             return CosetAnswer::Refused(Refusal::LogSize);
         }
-        if index::MOST < initial_index.0 {
+        if !index::is_index(initial_index) {
             return CosetAnswer::Refused(Refusal::Index);
         }
-        CosetAnswer::Value(inner::new(initial_index.0, log_size))
+        CosetAnswer::Value(inner::new(initial_index, log_size))
     }
 
     // <G_n>
@@ -74,7 +77,7 @@ impl Coset {
     pub fn size(self) -> U64Answer
         ensures { λ r. ⌜ r ≡ sizeAnswer self ⌝ }
     {
-        let record = inner::check(self);
+        let record = check(self);
         if let Check::Refused(why) = record {
             return U64Answer::Refused(why);
         }
@@ -84,7 +87,7 @@ impl Coset {
     pub fn log_size(self) -> U32Answer
         ensures { λ r. ⌜ r ≡ logSizeAnswer self ⌝ }
     {
-        let record = inner::check(self);
+        let record = check(self);
         if let Check::Refused(why) = record {
             return U32Answer::Refused(why);
         }
@@ -94,7 +97,7 @@ impl Coset {
     pub fn iter_indices(self) -> CosetIteratorAnswer
         ensures { λ r. ⌜ r ≡ iterIndicesAnswer self ⌝ }
     {
-        let record = inner::check(self);
+        let record = check(self);
         if let Check::Refused(why) = record {
             return CosetIteratorAnswer::Refused(why);
         }
@@ -111,7 +114,7 @@ impl Coset {
     pub fn repeated_double(self, n_doubles: u32) -> CosetAnswer
         ensures { λ r. ⌜ r ≡ repeatedDoubleAnswer self «n_doubles» ⌝ }
     {
-        let record = inner::check(self);
+        let record = check(self);
         if let Check::Refused(why) = record {
             return CosetAnswer::Refused(why);
         }
@@ -124,7 +127,7 @@ impl Coset {
     pub fn is_doubling_of(self, other: Coset) -> BoolAnswer
         ensures { λ r. ⌜ r ≡ isDoublingOfAnswer self other ⌝ }
     {
-        let records = inner::check_two(self, other);
+        let records = check_two(self, other);
         if let Check::Refused(why) = records {
             return BoolAnswer::Refused(why);
         }
@@ -134,7 +137,7 @@ impl Coset {
     pub fn initial(self) -> CirclePointAnswer
         ensures { λ r. ⌜ r ≡ initialAnswer self ⌝ }
     {
-        let record = inner::check(self);
+        let record = check(self);
         if let Check::Refused(why) = record {
             return CirclePointAnswer::Refused(why);
         }
@@ -146,17 +149,17 @@ impl Coset {
     pub fn index_at(self, i: u64) -> CirclePointIndexAnswer
         ensures { λ r. ⌜ r ≡ indexAtAnswer self i ⌝ }
     {
-        let record = inner::check(self);
+        let record = check(self);
         if let Check::Refused(why) = record {
             return CirclePointIndexAnswer::Refused(why);
         }
-        CirclePointIndexAnswer::Value(CirclePointIndex(inner::index_at(self, i)))
+        CirclePointIndexAnswer::Value(inner::index_at(self, i))
     }
 
     pub fn at(self, i: u64) -> CirclePointAnswer
         ensures { λ r. ⌜ r ≡ atAnswer self i ⌝ }
     {
-        let record = inner::check(self);
+        let record = check(self);
         if let Check::Refused(why) = record {
             return CirclePointAnswer::Refused(why);
         }
@@ -166,18 +169,18 @@ impl Coset {
     pub fn shift(self, shift_size: CirclePointIndex) -> CosetAnswer
         ensures { λ r. ⌜ r ≡ shiftAnswer self «shift_size» ⌝ }
     {
-        let record = inner::check_with_index(self, shift_size.0);
+        let record = check_with_index(self, shift_size);
         if let Check::Refused(why) = record {
             return CosetAnswer::Refused(why);
         }
-        CosetAnswer::Value(inner::shift(self, shift_size.0))
+        CosetAnswer::Value(inner::shift(self, shift_size))
     }
 
     // -initial - <step>
     pub fn conjugate(self) -> CosetAnswer
         ensures { λ r. ⌜ r ≡ conjugateAnswer self ⌝ }
     {
-        let record = inner::check(self);
+        let record = check(self);
         if let Check::Refused(why) = record {
             return CosetAnswer::Refused(why);
         }

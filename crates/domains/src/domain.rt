@@ -4,27 +4,24 @@ ghost use Prim.Native.Nat.{_*_, _%_, _^_, _≤_};
 ghost use mathlib.Core.List.{_++_};
 ghost use lib.ListN.{length, drop};
 ghost use Rattle.algebra.specs.Listing.{listing};
-ghost use Rattle.domains.specs.Coset.{Fits};
+ghost use Rattle.domains.specs.Record.{Fits};
 ghost use Rattle.domains.specs.Domain.{newAnswer, iterIndicesAnswer, sizeAnswer, logSizeAnswer, domainIndexAt, atAnswer, indexAtAnswer, isCanonicAnswer, splitAnswer, splitExit, shiftAnswer};
 use crate::coset::Coset;
 use crate::coset::inner;
 use crate::iterator::CircleDomainIndexIterator;
 use crate::iterator::CircleDomainIndexIteratorAnswer;
-use crate::record::Check;
+use crate::record::check;
+use crate::record::check_with_index;
 use circle::index::CirclePointIndex;
 use circle::index::CirclePointIndexAnswer;
 use circle::index::inner as index;
 use circle::point::CirclePointAnswer;
-use circle::point::M31_CIRCLE_LOG_ORDER;
 use fields::answer::BoolAnswer;
 use fields::answer::U32Answer;
 use fields::answer::U64Answer;
+use fields::check::Check;
+use fields::log_size::inner::two_to;
 use fields::refusal::Refusal;
-use orders::utils::inner::two_to;
-
-pub const MAX_CIRCLE_DOMAIN_LOG_SIZE: u32 = M31_CIRCLE_LOG_ORDER - 1;
-
-pub const MIN_CIRCLE_DOMAIN_LOG_SIZE: u32 = 1;
 
 pub struct CircleDomain {
     pub half_coset: Coset,
@@ -36,26 +33,26 @@ pub enum CircleDomainAnswer {
 }
 
 // From the half coset's size on, the conjugates: the positions are not periodic.
-fn index_at(half: Coset, i: u64) -> u64
+fn index_at(half: Coset, i: u64) -> CirclePointIndex
     requires { ⌜ Fits half ⌝ }
-    ensures { λ r. ⌜ r ≡ domainIndexAt half i ⌝ }
+    ensures { λ r. ⌜ r .0 ≡ domainIndexAt half i ⌝ }
 {
     let size = two_to(half.log_size);
     if i < size {
         return inner::index_at(half, i);
     }
-    inner::neg(inner::index_at(half, i - size))
+    index::neg(inner::index_at(half, i - size))
 }
 
 // step times 0, 1, .. up to so many parts
-fn write_shifts(step: u64, parts: u64, shifts: &mut [u32])
+fn write_shifts(step: CirclePointIndex, parts: u64, shifts: &mut [u32])
     requires { ⌜ parts ≤ length (now shifts) ⌝ }
-    ensures { λ r. ⌜ now (shifts .exit) ≡ listing parts (λ i. (step * i) % 2 ^ 31) ++ drop parts (now (shifts .entry)) ⌝ }
+    ensures { λ r. ⌜ now (shifts .exit) ≡ listing parts (λ i. (step .0 * i) % 2 ^ 31) ++ drop parts (now (shifts .entry)) ⌝ }
 {
     let mut i = 0;
     while i < parts {
-        let shift = inner::times(step, i);
-        shifts[i as usize] = shift as u32;
+        let shift = index::mul(step, i);
+        shifts[i as usize] = shift.0 as u32;
         i += 1;
     }
 }
@@ -64,7 +61,7 @@ impl CircleDomain {
     pub fn new(half_coset: Coset) -> CircleDomainAnswer
         ensures { λ r. ⌜ r ≡ newAnswer «half_coset» ⌝ }
     {
-        let record = inner::check(half_coset);
+        let record = check(half_coset);
         if let Check::Refused(why) = record {
             return CircleDomainAnswer::Refused(why);
         }
@@ -75,7 +72,7 @@ impl CircleDomain {
         ensures { λ r. ⌜ r ≡ iterIndicesAnswer self ⌝ }
     {
         let half = self.half_coset;
-        let record = inner::check(half);
+        let record = check(half);
         if let Check::Refused(why) = record {
             return CircleDomainIndexIteratorAnswer::Refused(why);
         }
@@ -89,7 +86,7 @@ impl CircleDomain {
         ensures { λ r. ⌜ r ≡ sizeAnswer self ⌝ }
     {
         let half = self.half_coset;
-        let record = inner::check(half);
+        let record = check(half);
         if let Check::Refused(why) = record {
             return U64Answer::Refused(why);
         }
@@ -100,7 +97,7 @@ impl CircleDomain {
         ensures { λ r. ⌜ r ≡ logSizeAnswer self ⌝ }
     {
         let half = self.half_coset;
-        let record = inner::check(half);
+        let record = check(half);
         if let Check::Refused(why) = record {
             return U32Answer::Refused(why);
         }
@@ -111,7 +108,7 @@ impl CircleDomain {
         ensures { λ r. ⌜ r ≡ atAnswer self i ⌝ }
     {
         let half = self.half_coset;
-        let record = inner::check(half);
+        let record = check(half);
         if let Check::Refused(why) = record {
             return CirclePointAnswer::Refused(why);
         }
@@ -122,22 +119,23 @@ impl CircleDomain {
         ensures { λ r. ⌜ r ≡ indexAtAnswer self i ⌝ }
     {
         let half = self.half_coset;
-        let record = inner::check(half);
+        let record = check(half);
         if let Check::Refused(why) = record {
             return CirclePointIndexAnswer::Refused(why);
         }
-        CirclePointIndexAnswer::Value(CirclePointIndex(index_at(half, i)))
+        CirclePointIndexAnswer::Value(index_at(half, i))
     }
 
     pub fn is_canonic(self) -> BoolAnswer
         ensures { λ r. ⌜ r ≡ isCanonicAnswer self ⌝ }
     {
         let half = self.half_coset;
-        let record = inner::check(half);
+        let record = check(half);
         if let Check::Refused(why) = record {
             return BoolAnswer::Refused(why);
         }
-        BoolAnswer::Value(inner::times(half.initial_index.0, 4) == half.step_size.0)
+        let fourfold = index::mul(half.initial_index, 4);
+        BoolAnswer::Value(fourfold.0 == half.step_size.0)
     }
 
     // A domain of fewer points, and the shifts that take it to the parts of this one.
@@ -145,7 +143,7 @@ impl CircleDomain {
         ensures { λ r. ⌜ (r ≡ splitAnswer self «log_parts» (length (now (shifts .entry)))) × (now (shifts .exit) ≡ splitExit (splitAnswer self «log_parts» (length (now (shifts .entry)))) self «log_parts» (now (shifts .entry))) ⌝ }
     {
         let half = self.half_coset;
-        let record = inner::check(half);
+        let record = check(half);
         if let Check::Refused(why) = record {
             return CircleDomainAnswer::Refused(why);
         }
@@ -156,8 +154,8 @@ impl CircleDomain {
         if (shifts.len() as u64) < parts {
             return CircleDomainAnswer::Refused(Refusal::Length);
         }
-        write_shifts(half.step_size.0, parts, shifts);
-        let half_coset = inner::new(half.initial_index.0, half.log_size - log_parts);
+        write_shifts(half.step_size, parts, shifts);
+        let half_coset = inner::new(half.initial_index, half.log_size - log_parts);
         CircleDomainAnswer::Value(CircleDomain { half_coset })
     }
 
@@ -165,11 +163,11 @@ impl CircleDomain {
         ensures { λ r. ⌜ r ≡ shiftAnswer self shift ⌝ }
     {
         let half = self.half_coset;
-        let record = inner::check_with_index(half, shift.0);
+        let record = check_with_index(half, shift);
         if let Check::Refused(why) = record {
             return CircleDomainAnswer::Refused(why);
         }
-        let half_coset = inner::shift(half, shift.0);
+        let half_coset = inner::shift(half, shift);
         CircleDomainAnswer::Value(CircleDomain { half_coset })
     }
 }

@@ -1,11 +1,12 @@
 // Iterators over the indices of a coset and of a circle domain (stwo's CosetIterator<CirclePointIndex> and
 // CircleDomainIndexIterator), by value: a step hands back the iterator after it.
 ghost use mathlib.Core.Path.{_≡_};
-ghost use Prim.Native.Nat.{_≤_, _<_, _^_};
-ghost use Rattle.domains.specs.Iterator.{hasIndices, advanced, nextAnswer, domainNextAnswer};
-use crate::record::both;
+ghost use Rattle.fields.specs.Check.{outcome};
+ghost use Rattle.domains.specs.Iterator.{check, checkBoth, CanAdvance, advanced, nextAnswer, domainNextAnswer};
+use crate::record::in_range;
 use circle::index::CirclePointIndex;
 use circle::index::inner as index;
+use fields::check::Check;
 use fields::refusal::Refusal;
 
 pub struct CosetIterator {
@@ -27,19 +28,20 @@ pub enum CosetStep {
     Refused(Refusal),
 }
 
-fn has_indices(it: CosetIterator) -> bool
-    ensures { λ r. ⌜ r ≡ hasIndices it ⌝ }
+fn check(it: CosetIterator) -> Check
+    ensures { λ r. ⌜ r ≡ outcome (check it) ⌝ }
 {
-    both(it.cur.0 <= index::MOST, it.step.0 <= index::MOST)
+    in_range(it.cur).then(in_range(it.step))
 }
 
 fn advance(it: CosetIterator) -> CosetIterator
-    requires { ⌜ (it .cur .0 ≤ 2 ^ 31) × (it .step .0 ≤ 2 ^ 31) × (0 < it .remaining) ⌝ }
+    requires { ⌜ CanAdvance it ⌝ }
     ensures { λ r. ⌜ r ≡ advanced it ⌝ }
 {
     let step = it.step;
+    let cur = index::add(it.cur, step);
     CosetIterator {
-        cur: CirclePointIndex(index::reduce(it.cur.0 + it.step.0)),
+        cur,
         step,
         remaining: it.remaining - 1,
     }
@@ -49,8 +51,9 @@ impl CosetIterator {
     pub fn next(self) -> CosetStep
         ensures { λ r. ⌜ r ≡ nextAnswer self ⌝ }
     {
-        if !has_indices(self) {
-            return CosetStep::Refused(Refusal::Index);
+        let indices = check(self);
+        if let Check::Refused(why) = indices {
+            return CosetStep::Refused(why);
         }
         if self.remaining == 0 {
             return CosetStep::Done(self);
@@ -79,15 +82,22 @@ pub enum CircleDomainStep {
     Refused(Refusal),
 }
 
+fn check_both(it: CircleDomainIndexIterator) -> Check
+    ensures { λ r. ⌜ r ≡ outcome (checkBoth it) ⌝ }
+{
+    check(it.first).then(check(it.second))
+}
+
 impl CircleDomainIndexIterator {
     pub fn next(self) -> CircleDomainStep
         ensures { λ r. ⌜ r ≡ domainNextAnswer self ⌝ }
     {
+        let indices = check_both(self);
+        if let Check::Refused(why) = indices {
+            return CircleDomainStep::Refused(why);
+        }
         let first = self.first;
         let second = self.second;
-        if !both(has_indices(first), has_indices(second)) {
-            return CircleDomainStep::Refused(Refusal::Index);
-        }
         if 0 < first.remaining {
             let cur = first.cur;
             let after = advance(first);

@@ -1,7 +1,7 @@
 // The transform of columns (transform).
 ghost use mathlib.Core.Path.{_≡_};
 ghost use lib.ListN.{length};
-ghost use Rattle.transform.specs.Transform.{transformAnswer, evaluateExit, InterpolateExit, ScratchExit};
+ghost use Rattle.transform.specs.Transform.{transformAnswer, Evaluated, Interpolated};
 ghost use Rattle.taripomune.specs.Reply.{writeReply};
 use crate::reply::WriteReply;
 use crate::reply::write_reply;
@@ -14,7 +14,8 @@ pub extern "C" fn tari_evaluate(
     column: &mut [u32],
     scratch: &mut [u32],
 ) -> WriteReply
-    ensures { λ r. ⌜ (r ≡ writeReply (transformAnswer «log_size» (now (column .entry)) (length (now (scratch .entry))))) × (now (column .exit) ≡ evaluateExit (transformAnswer «log_size» (now (column .entry)) (length (now (scratch .entry)))) «log_size» (now (column .entry))) × ScratchExit (transformAnswer «log_size» (now (column .entry)) (length (now (scratch .entry)))) «log_size» (now (scratch .entry)) (now (scratch .exit)) ⌝ }
+    ensures { λ r. ⌜ (r ≡ writeReply (transformAnswer «log_size» (now (column .entry)) (length (now (scratch .entry)))))
+        × Evaluated «log_size» (now (column .entry)) (now (scratch .entry)) (now (column .exit)) (now (scratch .exit)) ⌝ }
 {
     write_reply(evaluate(log_size, column, scratch))
 }
@@ -25,7 +26,8 @@ pub extern "C" fn tari_interpolate(
     column: &mut [u32],
     scratch: &mut [u32],
 ) -> WriteReply
-    ensures { λ r. ⌜ (r ≡ writeReply (transformAnswer «log_size» (now (column .entry)) (length (now (scratch .entry))))) × InterpolateExit (transformAnswer «log_size» (now (column .entry)) (length (now (scratch .entry)))) «log_size» (now (column .entry)) (now (column .exit)) × ScratchExit (transformAnswer «log_size» (now (column .entry)) (length (now (scratch .entry)))) «log_size» (now (scratch .entry)) (now (scratch .exit)) ⌝ }
+    ensures { λ r. ⌜ (r ≡ writeReply (transformAnswer «log_size» (now (column .entry)) (length (now (scratch .entry)))))
+        × Interpolated «log_size» (now (column .entry)) (now (scratch .entry)) (now (column .exit)) (now (scratch .exit)) ⌝ }
 {
     write_reply(interpolate(log_size, column, scratch))
 }

@@ -3,6 +3,7 @@ pub mod Theorem
 -- definitions
 pub mod Transform
 -- laws
+pub mod Accepted
 pub mod Tree
 pub mod Twiddles
 pub mod Elements

@@ -1,15 +1,15 @@
 -- The cases that document 01 marks, over the definitions that the contracts cite.
-use Prim.Native.Nat.{ℕ, zero, suc, _-_, _*_, _^_, _<_}
+use Prim.Native.Nat.{ℕ, zero, suc, _-_, _*_, _%_, _^_, _≤_, _<_}
 use mathlib.Core.Path.{_≡_, refl, sym, _∙_, ap}
 use mathlib.Core.Bool.{false}
-use mathlib.Core.List.{List, [], _∷_, map}
+use mathlib.Core.List.{List, [], _∷_, _++_, map}
 use native.Mathlib.Nat as N
 use native.Mathlib.Omega.{arith}
-use lib.Dec.{lit<, lit≤}
-use borrow.Author.Tests.{lt-leb, ne-eqb}
+use lib.Dec.{leb, lit<, lit≤}
+use borrow.Author.Tests.{lt-ltb, ne-eqb}
 use lib.IntN.{negsuc}
 use lib.ListN.{length, getD}
-use Rattle.algebra.specs.Listing.{listing}
+use Rattle.algebra.specs.Listing.{listing, listing-at}
 use Rattle.algebra.specs.M31.{P}
 use Rattle.algebra.specs.Circle.{multiple}
 use Rattle.algebra.specs.Doubling.{iterate}
@@ -18,6 +18,8 @@ use Rattle.fields.specs.CM31.{ofPair}
 use Rattle.fields.specs.CM31 as C
 use Rattle.fields.specs.QM31.{ofPairs}
 use Rattle.fields.specs.QM31 as Q
+use Rattle.fields.specs.Check.{need}
+use Rattle.fields.specs.CheckLaws.{hold-both, hold-passes}
 use Rattle.fields.specs.Search.{first}
 use Rattle.fields.specs.Words.{mulP, words31}
 use Rattle.fields.specs.Inverse.{m31-inverse-unique}
@@ -25,25 +27,30 @@ use Rattle.fields.specs.declared.m31.M31Answer.the-variants.{Value}
 use Rattle.fields.specs.declared.cm31.CM31Answer.the-variants as CA
 use Rattle.fields.specs.declared.qm31.QM31Answer.the-variants as QA
 use Rattle.fields.specs.declared.answer.BoolAnswer.the-variants as B
+use Rattle.fields.specs.declared.answer.WriteAnswer.the-variants.{Written}
+use Rattle.fields.specs.declared.refusal.Refusal.the-variants.{Doublings}
 use Rattle.fields.specs.declared.answer.U64Answer.the-variants as U
 use Rattle.circle.specs.Point.{ofPoint}
 use Rattle.circle.specs.Formulas.{antipode}
 use Rattle.circle.specs.IndexPoints.{index-antipode}
 use Rattle.circle.specs.Index.{ofIndex, indexPoint, toPointAnswer}
 use Rattle.circle.specs.declared.point.CirclePointAnswer.the-variants as P
+use Rattle.circle.specs.declared.index.CirclePointIndexAnswer.the-variants as I
 use Rattle.orders.specs.BitReverse.{reverseBits}
 use Rattle.orders.specs.Orders.{logSize, inPlaceAnswer, inPlaceExit, wordsAt, cosetBitReversed, toDomain, offsetAnswer, offsetElement, previousAnswer}
 use Rattle.domains.specs.declared.coset.CosetAnswer.the-variants as K
 use Rattle.domains.specs.declared.domain.CircleDomainAnswer.the-variants as D
 use Rattle.domains.specs.Listing.{unit, cosetIndex, domainIndices}
-use Rattle.domains.specs.Record.{passed}
-use Rattle.domains.specs.Coset.{cosetOf, newAnswer, subgroupAnswer, doubled, sameCoset, isDoublingOf, isDoublingOfAnswer}
-use Rattle.domains.specs.CosetLaws.{fits-passes, two-pass, made-fits}
+use Rattle.domains.specs.Record.{check, checkTwo}
+use Rattle.domains.specs.Coset.{cosetOf, newAnswer, subgroupAnswer, doubled, doubleAnswer, repeatedDoubleAnswer, sameCoset, isDoublingOf, isDoublingOfAnswer}
+use Rattle.domains.specs.CosetLaws.{fits-hold, two-hold, made-fits}
 use Rattle.domains.specs.CanonicDomain.{canonic-domain}
-use Rattle.domains.specs.Domain.{ofHalf, isCanonicAnswer}
+use Rattle.domains.specs.Domain.{ofHalf, indexAtAnswer, isCanonicAnswer}
 use Rattle.domains.specs.Canonic.{canonicOf, halfOf, circleDomainAnswer}
+use Rattle.domains.specs.Canonic as Canonic
 use Rattle.column.specs.Column.{product, sum, combination, value, values}
-use Rattle.transform.specs.Transform.{positionPoint, Coefficients}
+use Rattle.transform.specs.Transform.{positionPoint, Column, Coefficients, transformAnswer, InterpolateExit}
+use Rattle.transform.specs.Accepted.{is-accepted}
 use Rattle.transform.specs.Theorem.{Promise, theorem}
 
 -- ---- M31
@@ -64,7 +71,7 @@ minus-one-squared = refl
 
 the-inverse : (a b : ℕ) → a < P → ¬ (a ≡ 0) → b < P → mulP a b ≡ 1 → inverseAnswer (ofWord a) ≡ Value (ofWord b)
 unfolding inverseAnswer
-the-inverse a b h n l e = rw (lt-leb P a h, ne-eqb a 0 n) (ap (λ (t : ℕ). Value (ofWord t)) (sym (m31-inverse-unique a b l e)))
+the-inverse a b h n l e = rw (lt-ltb a P h, ne-eqb a 0 n) (ap (λ (t : ℕ). Value (ofWord t)) (sym (m31-inverse-unique a b l e)))
 
 -- the inverse of 2 is 1073741824
 pub inverse-of-two : inverseAnswer (ofWord 2) ≡ Value (ofWord 1073741824)
@@ -88,7 +95,7 @@ half-turn = ap (λ (p : ℕ × ℕ). P.Value (ofPoint p)) (index-antipode 0 ∙ 
 
 -- ---- cosets and domains
 
--- `is_doubling_of`: `subgroup(0)` against `subgroup(1)` is false, step 2^31 against 0
+-- `is_doubling_of`: `subgroup(0)` against `subgroup(1)` is false
 pub subgroup-zero : subgroupAnswer 0 ≡ K.Value (cosetOf 0 0)
 unfolding subgroupAnswer newAnswer
 subgroup-zero = refl
@@ -102,27 +109,68 @@ unfolding isDoublingOf sameCoset iterate doubled cosetOf
 steps-differ = refl
 
 pub no-doubling : isDoublingOfAnswer (cosetOf 0 0) (cosetOf 0 1) ≡ B.Value false
-unfolding isDoublingOfAnswer passed
+unfolding isDoublingOfAnswer
 no-doubling =
-    rw (two-pass (cosetOf 0 0) (cosetOf 0 1) (made-fits 0 0 (lit≤ tt) (lit≤ tt)) (made-fits 0 1 (lit≤ tt) (lit≤ tt)))
-    (ap B.Value steps-differ)
+    hold-passes (checkTwo (cosetOf 0 0) (cosetOf 0 1)) B.Refused _
+    (two-hold (cosetOf 0 0) (cosetOf 0 1) (made-fits 0 0 (lit≤ tt) (lit≤ tt)) (made-fits 0 1 (lit≤ tt) (lit≤ tt)))
+    ∙ ap B.Value steps-differ
 
--- n = 3, in units of h
-pub coset-three : listing (2 ^ 3) (cosetIndex 3) ≡ map (λ k. unit 3 * k) (1 ∷ 3 ∷ 5 ∷ 7 ∷ 9 ∷ 11 ∷ 13 ∷ 15 ∷ [])
+-- the steps that are compared: 2^31 of `subgroup(0)` against 0 of `subgroup(1)` doubled
+pub doubled-subgroup : doubleAnswer (cosetOf 0 1) ≡ K.Value (doubled (cosetOf 0 1))
+unfolding doubleAnswer repeatedDoubleAnswer iterate cosetOf
+doubled-subgroup =
+    hold-passes (check (cosetOf 0 1) ++ need (leb 1 1) Doublings) K.Refused (K.Value (doubled (cosetOf 0 1)))
+    (hold-both (check (cosetOf 0 1)) (need (leb 1 1) Doublings) (fits-hold (cosetOf 0 1) (made-fits 0 1 (lit≤ tt) (lit≤ tt))) (refl, tt))
+
+pub step-of-subgroup : cosetOf 0 0 .«step_size» ≡ ofIndex (2 ^ 31)
+unfolding cosetOf
+step-of-subgroup = refl
+
+pub step-of-doubled : doubled (cosetOf 0 1) .«step_size» ≡ ofIndex 0
+unfolding doubled cosetOf
+step-of-doubled = refl
+
+-- n = 3, in units of h: the coset 1 3 5 7 9 11 13 15, as `index_at` of the canonic coset gives it
+abbrev cosetThree : List ℕ
+cosetThree = map (λ k. unit 3 * k) (1 ∷ 3 ∷ 5 ∷ 7 ∷ 9 ∷ 11 ∷ 13 ∷ 15 ∷ [])
+
+coset-list : listing (2 ^ 3) (cosetIndex 3) ≡ cosetThree
 unfolding listing
-coset-three = refl
+coset-list = refl
 
-pub domain-three : domainIndices 3 ≡ map (λ k. unit 3 * k) (1 ∷ 5 ∷ 9 ∷ 13 ∷ 15 ∷ 11 ∷ 7 ∷ 3 ∷ [])
+pub coset-three : (k : ℕ) → k < 2 ^ 3 → Canonic.indexAtAnswer (canonicOf 3) k ≡ I.Value (ofIndex (getD cosetThree k 0))
+coset-three k h =
+    canonic-domain 3 (lit≤ tt) (lit≤ tt) .cosetIndices k
+    ∙ ap (λ (t : ℕ). I.Value (ofIndex t)) (sym (listing-at 0 (2 ^ 3) (cosetIndex 3) k h) ∙ ap (λ (l : List ℕ). getD l k 0) coset-list)
+
+-- the domain 1 5 9 13 15 11 7 3, as `index_at` of the canonic domain gives it
+abbrev domainThree : List ℕ
+domainThree = map (λ k. unit 3 * k) (1 ∷ 5 ∷ 9 ∷ 13 ∷ 15 ∷ 11 ∷ 7 ∷ 3 ∷ [])
+
+domain-list : domainIndices 3 ≡ domainThree
 unfolding domainIndices listing
-domain-three = refl
+domain-list = refl
 
--- `is_canonic` of the canonic domain of log size 1 is false, 0 against 2^31
+pub domain-three : (i : ℕ) → i < 2 ^ 3 → indexAtAnswer (ofHalf (halfOf 3)) i ≡ I.Value (ofIndex (getD domainThree i 0))
+domain-three i h =
+    canonic-domain 3 (lit≤ tt) (lit≤ tt) .indices i h ∙ ap (λ (l : List ℕ). I.Value (ofIndex (getD l i 0))) domain-list
+
+-- `is_canonic` of the canonic domain of log size 1 is false
 pub domain-one : circleDomainAnswer (canonicOf 1) ≡ D.Value (ofHalf (halfOf 1))
 domain-one = canonic-domain 1 (lit≤ tt) (lit≤ tt) .domain
 
 pub not-canonic : isCanonicAnswer (ofHalf (halfOf 1)) ≡ B.Value false
-unfolding isCanonicAnswer passed halfOf cosetOf
-not-canonic = rw (fits-passes (cosetOf (2 ^ 29) 0) (made-fits (2 ^ 29) 0 (lit≤ tt) (lit≤ tt)))
+unfolding isCanonicAnswer halfOf cosetOf
+not-canonic = hold-passes (check (halfOf 1)) B.Refused _ (fits-hold (cosetOf (2 ^ 29) 0) (made-fits (2 ^ 29) 0 (lit≤ tt) (lit≤ tt)))
+
+-- the numbers that are compared: 4 times its initial index, reduced, is 0, and its step is 2^31
+pub fourfold : (halfOf 1 .«initial_index» .0 * 4) % 2 ^ 31 ≡ 0
+unfolding halfOf cosetOf
+fourfold = refl
+
+pub its-step : halfOf 1 .«step_size» .0 ≡ 2 ^ 31
+unfolding halfOf cosetOf
+its-step = refl
 
 -- ---- orders
 
@@ -163,8 +211,7 @@ constant : (a : ℕ) (p : ℕ × ℕ) → a < P → value words31 2 (a ∷ 0 ∷
 unfolding combination sum product
 constant a p h = simp (N.zero-mul, N.mul-one) (omega arith)
 
--- n = 2: values 7 7 7 7 give coefficients 7 0 0 0
-pub sevens : Coefficients 2 (7 ∷ 0 ∷ 0 ∷ 0 ∷ []) (7 ∷ 7 ∷ 7 ∷ 7 ∷ [])
+sevens : Coefficients 2 (7 ∷ 0 ∷ 0 ∷ 0 ∷ []) (7 ∷ 7 ∷ 7 ∷ 7 ∷ [])
 unfolding values listing
 sevens = record {
   column = record { size = refl; below = below };
@@ -181,9 +228,8 @@ sevens = record {
     below (suc (suc (suc zero))) h = lit< tt
     below (suc (suc (suc (suc k)))) h = absurd (omega arith)
 
--- and no others
-pub only-sevens : (c : List ℕ) → Coefficients 2 c (7 ∷ 7 ∷ 7 ∷ 7 ∷ []) → c ≡ 7 ∷ 0 ∷ 0 ∷ 0 ∷ []
-only-sevens c h = promise .only c h ∙ sym (promise .only (7 ∷ 0 ∷ 0 ∷ 0 ∷ []) sevens)
+four-sevens : Column 2 (7 ∷ 7 ∷ 7 ∷ 7 ∷ [])
+four-sevens = record { size = refl; below = below }
   where
     below : (k : ℕ) → k < 4 → getD (7 ∷ 7 ∷ 7 ∷ 7 ∷ []) k 0 < P
     below zero h = lit< tt
@@ -192,5 +238,15 @@ only-sevens c h = promise .only c h ∙ sym (promise .only (7 ∷ 0 ∷ 0 ∷ 0 
     below (suc (suc (suc zero))) h = lit< tt
     below (suc (suc (suc (suc k)))) h = absurd (omega arith)
 
+-- n = 2: values 7 7 7 7 give coefficients 7 0 0 0. `interpolate` accepts them with 4 words of scratch or more, and leaves
+-- these coefficients
+pub sevens-accepted : (scratch : ℕ) → 4 ≤ scratch → transformAnswer 2 (7 ∷ 7 ∷ 7 ∷ 7 ∷ []) scratch ≡ Written
+sevens-accepted scratch room =
+    is-accepted 2 (7 ∷ 7 ∷ 7 ∷ 7 ∷ []) scratch (record { low = lit≤ tt; high = lit≤ tt; words = four-sevens; room = room })
+
+pub sevens-interpolated : (scratch : ℕ) (exit : List ℕ) → transformAnswer 2 (7 ∷ 7 ∷ 7 ∷ 7 ∷ []) scratch ≡ Written
+    → InterpolateExit (transformAnswer 2 (7 ∷ 7 ∷ 7 ∷ 7 ∷ []) scratch) 2 (7 ∷ 7 ∷ 7 ∷ 7 ∷ []) exit → exit ≡ 7 ∷ 0 ∷ 0 ∷ 0 ∷ []
+sevens-interpolated scratch exit e left = promise .interpolated scratch exit e left ∙ sym (promise .only (7 ∷ 0 ∷ 0 ∷ 0 ∷ []) sevens)
+  where
     promise : Promise 2 (7 ∷ 7 ∷ 7 ∷ 7 ∷ [])
-    promise = theorem 2 (lit≤ tt) (lit≤ tt) (7 ∷ 7 ∷ 7 ∷ 7 ∷ []) (record { size = refl; below = below })
+    promise = theorem 2 (lit≤ tt) (lit≤ tt) (7 ∷ 7 ∷ 7 ∷ 7 ∷ []) four-sevens

@@ -1,21 +1,19 @@
 -- What the transform promises, for every log size from 1 to 30: each list of 2^n values below P comes from exactly one list
 -- of 2^n coefficients below P; interpolation leaves it, and evaluation of it leaves the values, whatever scratch held; the
--- domain has 2^n different points, exactly those of the circle whose x becomes 0 in n - 1 doublings.
+-- domain has 2^n different points, x and y below P, exactly those of the circle whose x becomes 0 in n - 1 doublings.
 use Prim.Native.Nat.{ℕ, _^_, _≤_}
-use mathlib.Core.Path.{_≡_, refl, sym, _∙_, ap, subst}
+use mathlib.Core.Path.{_≡_, sym, _∙_, ap, subst}
 use mathlib.Core.List.{List}
-use native.Mathlib.Omega.{arith}
-use lib.ListN.{length, getD, length-map}
-use borrow.Author.Tests.{le-leb, lt-leb, eq-eqb, le-ltb}
-use Rattle.algebra.specs.M31.{P, m31}
-use Rattle.fields.specs.Columns.{isBad, firstBad}
+use mathlib.Core.Logic.{_↔_}
+use lib.ListN.{length-map}
+use Rattle.algebra.specs.M31.{m31}
 use Rattle.fields.specs.declared.answer.WriteAnswer.{WriteAnswer}
 use Rattle.fields.specs.declared.answer.WriteAnswer.the-variants.{Written}
-use Rattle.fields.specs.SearchLaws.{first-none}
 use Rattle.domains.specs.PointSet.{PointSet, point-set}
 use Rattle.column.specs.Column.{values}
 use Rattle.column.specs.OneList.{OneList}
 use Rattle.transform.specs.Transform.{valuesOf, Column, Coefficients, transformAnswer, evaluateExit, InterpolateExit}
+use Rattle.transform.specs.Accepted.{accepted, is-accepted}
 use Rattle.transform.specs.Elements.{elements, words, words-equal, elements-words, words-below, column-words, values-below, fieldPoint, elements-values, field-one-list}
 
 -- `theorem` proves it for every n from 1 to 30 and every column of values
@@ -24,24 +22,26 @@ pub record Promise (n : ℕ) (v : List ℕ) : Type 0 where
   pub coefficients : List ℕ
   pub give : Coefficients n coefficients v
   pub only : (c : List ℕ) → Coefficients n c v → c ≡ coefficients
-  -- with 2^n words of scratch or more, both calls accept
-  pub accepted : (scratch : ℕ) → 2 ^ n ≤ scratch → (transformAnswer n v scratch ≡ Written) × (transformAnswer n coefficients scratch ≡ Written)
+  -- with 2^n words of scratch or more, and only then, both calls accept (`Accepted`)
+  pub accepted : (scratch : ℕ) → ((transformAnswer n v scratch ≡ Written) ↔ (2 ^ n ≤ scratch))
+      × ((transformAnswer n coefficients scratch ≡ Written) ↔ (2 ^ n ≤ scratch))
   -- what an accepted interpolation of the values leaves is that list
-  pub interpolated : (scratch : ℕ) (exit : List ℕ) → 2 ^ n ≤ scratch → InterpolateExit (transformAnswer n v scratch) n v exit → exit ≡ coefficients
+  pub interpolated : (scratch : ℕ) (exit : List ℕ) → transformAnswer n v scratch ≡ Written
+      → InterpolateExit (transformAnswer n v scratch) n v exit → exit ≡ coefficients
   -- what an accepted evaluation of it leaves is the values
-  pub evaluated : (scratch : ℕ) → 2 ^ n ≤ scratch → evaluateExit (transformAnswer n coefficients scratch) n coefficients ≡ v
-  -- the domain's points: all different, and exactly those named
+  pub evaluated : (scratch : ℕ) → transformAnswer n coefficients scratch ≡ Written
+      → evaluateExit (transformAnswer n coefficients scratch) n coefficients ≡ v
+  -- the domain's points: words below P, all different, and exactly those named
   pub points : PointSet n
 
 -- ---- proof
 
 module _ (n : ℕ) (lo : 1 ≤ n) (hi : n ≤ 30) where
-  pub column-accepted : (c : List ℕ) → Column n c → (scratch : ℕ) → 2 ^ n ≤ scratch → transformAnswer n c scratch ≡ Written
-  unfolding transformAnswer
-  column-accepted c h scratch room =
-      let none : length c ≡ firstBad c =
-      first-none (isBad c) (length c) (length c) refl (record { none = λ k l. lt-leb P (getD c k 0) (h .below k l) }) in
-      rw (le-leb 1 n lo, le-leb n 30 hi, eq-eqb (length c) (2 ^ n) (h .size), le-leb (2 ^ n) scratch room, ← none, le-ltb (length c) (length c) (omega arith))
+  column-accepted : (c : List ℕ) → Column n c → (scratch : ℕ) → (transformAnswer n c scratch ≡ Written) ↔ (2 ^ n ≤ scratch)
+  column-accepted c h scratch = (
+    λ e. accepted n c scratch e .room,
+    λ room. is-accepted n c scratch (record { low = lo; high = hi; words = h; room = room }),
+  )
 
   module _ (v : List ℕ) (h : Column n v) where
     one : OneList m31 n (fieldPoint n) (elements v)
@@ -65,8 +65,8 @@ module _ (n : ℕ) (lo : 1 ≤ n) (hi : n ≤ 30) where
       coefficients = words (one .coefficients);
       give = give;
       only = only;
-      accepted = λ scratch room. (column-accepted v h scratch room, column-accepted (words (one .coefficients)) (give .column) scratch room);
-      interpolated = λ scratch exit room left. only exit (subst (λ (answer : WriteAnswer). InterpolateExit answer n v exit) (column-accepted v h scratch room) left);
-      evaluated = λ scratch room. ap (λ (answer : WriteAnswer). evaluateExit answer n (words (one .coefficients))) (column-accepted (words (one .coefficients)) (give .column) scratch room) ∙ give .give;
+      accepted = λ scratch. (column-accepted v h scratch, column-accepted (words (one .coefficients)) (give .column) scratch);
+      interpolated = λ scratch exit e left. only exit (subst (λ (answer : WriteAnswer). InterpolateExit answer n v exit) e left);
+      evaluated = λ scratch e. ap (λ (answer : WriteAnswer). evaluateExit answer n (words (one .coefficients))) e ∙ give .give;
       points = point-set n lo hi;
     }

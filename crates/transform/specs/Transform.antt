@@ -1,16 +1,17 @@
 -- Document 01's transform on columns of words, and what each call answers and leaves.
 use Prim.Native.Nat.{ℕ, _^_, _<_}
 use mathlib.Core.Path.{_≡_}
-use mathlib.Core.Bool.{Bool, cond, _&&_}
-use mathlib.Core.List.{List}
-use lib.Dec.{leb, ltb, eqb}
+use mathlib.Core.List.{List, _++_}
+use lib.Dec.{leb, eqb}
 use lib.ListN.{length, getD, drop}
 use Rattle.algebra.specs.M31.{P}
 use Rattle.fields.specs.Words.{words31}
-use Rattle.fields.specs.Columns.{firstBad}
+use Rattle.fields.specs.Check.{Checks, need, checked}
+use Rattle.fields.specs.LogSize.{isLogSize}
+use Rattle.fields.specs.Columns.{words}
 use Rattle.fields.specs.declared.answer.WriteAnswer.{WriteAnswer}
 use Rattle.fields.specs.declared.answer.WriteAnswer.the-variants.{Written, Refused}
-use Rattle.fields.specs.declared.refusal.Refusal.the-variants.{LogSize, Length, Word}
+use Rattle.fields.specs.declared.refusal.Refusal.the-variants.{LogSize, Length}
 use Rattle.circle.specs.Index.{indexPoint}
 use Rattle.orders.specs.Orders.{bitReverseIndex}
 use Rattle.domains.specs.Listing.{domainIndex}
@@ -36,22 +37,13 @@ pub record Coefficients (n : ℕ) (coefficients values : List ℕ) : Type 0 wher
 
 -- ---- the calls
 
--- a log size in 1..30
-abbrev pub inRange : ℕ → Bool
-inRange n = leb 1 n && leb n 30
+-- a column of exactly 2^n words and scratch of no fewer, else number 8
+abbrev pub lengths : ℕ → List ℕ → ℕ → Checks
+lengths n column scratch = need (eqb (length column) (2 ^ n)) Length ++ need (leb (2 ^ n) scratch) Length
 
--- a column of exactly 2^n words and scratch of no fewer
-abbrev pub lengthsFit : ℕ → ℕ → ℕ → Bool
-lengthsFit n column scratch = eqb column (2 ^ n) && leb (2 ^ n) scratch
-
--- numbers 6, 8 and 1; of scratch only the length counts
+-- a log size in 1..30, else number 6; the lengths; words below P, else number 1. Of scratch only the length counts
 unfoldable pub transformAnswer : ℕ → List ℕ → ℕ → WriteAnswer
-transformAnswer n column scratch =
-    cond (inRange n)
-    (cond (lengthsFit n (length column) scratch)
-    (cond (ltb (firstBad column) (length column)) (Refused (Word (firstBad column))) Written)
-    (Refused Length))
-    (Refused LogSize)
+transformAnswer n column scratch = checked (need (isLogSize n) LogSize ++ lengths n column scratch ++ words column) Refused Written
 
 -- what an evaluation with this answer leaves of the column
 unfoldable pub evaluateExit : WriteAnswer → ℕ → List ℕ → List ℕ
@@ -67,3 +59,13 @@ InterpolateExit (Refused why) n column exit = exit ≡ column
 unfoldable pub ScratchExit : WriteAnswer → ℕ → List ℕ → List ℕ → Type 0
 ScratchExit Written n scratch exit = (length exit ≡ length scratch) × (drop (2 ^ n) exit ≡ drop (2 ^ n) scratch)
 ScratchExit (Refused why) n scratch exit = exit ≡ scratch
+
+-- what an evaluation leaves of the column and of scratch
+pub record Evaluated (n : ℕ) (column scratch columnExit scratchExit : List ℕ) : Type 0 where
+  pub columnLeft : columnExit ≡ evaluateExit (transformAnswer n column (length scratch)) n column
+  pub scratchLeft : ScratchExit (transformAnswer n column (length scratch)) n scratch scratchExit
+
+-- and an interpolation
+pub record Interpolated (n : ℕ) (column scratch columnExit scratchExit : List ℕ) : Type 0 where
+  pub columnLeft : InterpolateExit (transformAnswer n column (length scratch)) n column columnExit
+  pub scratchLeft : ScratchExit (transformAnswer n column (length scratch)) n scratch scratchExit

@@ -10,6 +10,7 @@ ghost use Rattle.transform.specs.Transform.{valuesOf, Column};
 ghost use Rattle.transform.specs.Tree.{Words, PartlyReduced, reducedWords, nodeTwiddle, pairTwiddle, evaluateEight, Block};
 use crate::twiddles;
 use circle::index::inner::powers::power_point;
+use fields::log_size::inner::two_to;
 use fields::m31::P;
 use fields::m31::inner::add;
 use fields::m31::inner::add_partly;
@@ -18,7 +19,6 @@ use fields::m31::inner::mul_partly;
 use fields::m31::inner::partial_reduce;
 use fields::m31::inner::sub;
 use fields::m31::inner::sub_partly;
-use orders::utils::inner::two_to;
 
 // A butterfly with twiddle w on each pair of words, half a block apart. P may stand for 0, before and after it.
 fn butterflies(block: &mut [u32], half: usize, w: u32)

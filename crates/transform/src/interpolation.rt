@@ -10,6 +10,7 @@ ghost use Rattle.transform.specs.Transform.{Column, Coefficients};
 ghost use Rattle.transform.specs.Tree.{Words, PartlyReduced, reducedWords, nodeTwiddle, pairTwiddle, interpolateEight, Block, Unscaled};
 use crate::twiddles;
 use circle::index::inner::powers::power_point;
+use fields::log_size::inner::two_to;
 use fields::m31::P;
 use fields::m31::inner::add;
 use fields::m31::inner::add_partly;
@@ -19,7 +20,6 @@ use fields::m31::inner::mul_partly;
 use fields::m31::inner::partial_reduce;
 use fields::m31::inner::sub;
 use fields::m31::inner::sub_partly;
-use orders::utils::inner::two_to;
 
 const TWO_POW_31: u32 = 2147483648;
 

@@ -1,11 +1,12 @@
 // The transform between a column's values on the canonic circle domain and its coefficients (document 01, Transform).
 ghost use mathlib.Core.Path.{_≡_};
 ghost use lib.ListN.{length};
-ghost use Rattle.transform.specs.Transform.{transformAnswer, evaluateExit, InterpolateExit, ScratchExit};
+ghost use Rattle.transform.specs.Transform.{transformAnswer, Evaluated, Interpolated};
 use fields::answer::WriteAnswer;
 use fields::columns::first_bad;
+use fields::log_size::inner::two_to;
+use fields::log_size::is_log_size;
 use fields::refusal::Refusal;
-use orders::utils::inner::two_to;
 
 mod evaluation;
 mod interpolation;
@@ -15,10 +16,7 @@ mod twiddles;
 fn check(log_size: u32, column: &[u32], scratch: usize) -> WriteAnswer
     ensures { λ r. ⌜ r ≡ transformAnswer «log_size» (now (column .entry)) scratch ⌝ }
 {
-    if log_size < 1 {
-        return WriteAnswer::Refused(Refusal::LogSize);
-    }
-    if 30 < log_size {
+    if !is_log_size(log_size) {
         return WriteAnswer::Refused(Refusal::LogSize);
     }
     let size = two_to(log_size) as usize;
@@ -37,7 +35,8 @@ fn check(log_size: u32, column: &[u32], scratch: usize) -> WriteAnswer
 
 // Rewrites a column of 2^log_size coefficients as their values.
 pub fn evaluate(log_size: u32, column: &mut [u32], scratch: &mut [u32]) -> WriteAnswer
-    ensures { λ r. ⌜ (r ≡ transformAnswer «log_size» (now (column .entry)) (length (now (scratch .entry)))) × (now (column .exit) ≡ evaluateExit (transformAnswer «log_size» (now (column .entry)) (length (now (scratch .entry)))) «log_size» (now (column .entry))) × ScratchExit (transformAnswer «log_size» (now (column .entry)) (length (now (scratch .entry)))) «log_size» (now (scratch .entry)) (now (scratch .exit)) ⌝ }
+    ensures { λ r. ⌜ (r ≡ transformAnswer «log_size» (now (column .entry)) (length (now (scratch .entry))))
+        × Evaluated «log_size» (now (column .entry)) (now (scratch .entry)) (now (column .exit)) (now (scratch .exit)) ⌝ }
 {
     let answer = check(log_size, column, scratch.len());
     let WriteAnswer::Written = answer else {
@@ -49,7 +48,8 @@ pub fn evaluate(log_size: u32, column: &mut [u32], scratch: &mut [u32]) -> Write
 
 // Rewrites a column of 2^log_size values as the coefficients that give them.
 pub fn interpolate(log_size: u32, column: &mut [u32], scratch: &mut [u32]) -> WriteAnswer
-    ensures { λ r. ⌜ (r ≡ transformAnswer «log_size» (now (column .entry)) (length (now (scratch .entry)))) × InterpolateExit (transformAnswer «log_size» (now (column .entry)) (length (now (scratch .entry)))) «log_size» (now (column .entry)) (now (column .exit)) × ScratchExit (transformAnswer «log_size» (now (column .entry)) (length (now (scratch .entry)))) «log_size» (now (scratch .entry)) (now (scratch .exit)) ⌝ }
+    ensures { λ r. ⌜ (r ≡ transformAnswer «log_size» (now (column .entry)) (length (now (scratch .entry))))
+        × Interpolated «log_size» (now (column .entry)) (now (scratch .entry)) (now (column .exit)) (now (scratch .exit)) ⌝ }
 {
     let answer = check(log_size, column, scratch.len());
     let WriteAnswer::Written = answer else {

@@ -11,9 +11,9 @@ ghost use Rattle.transform.specs.Tree.{Words, LinesFrom, LineTree, besid
 use circle::index::inner::powers::power_point;
 use circle::point::CirclePoint;
 use circle::point::inner as point;
+use fields::log_size::inner::two_to;
 use fields::m31::M31;
 use fields::m31::inner as m31;
-use orders::utils::inner::two_to;
 
 // p + step, where the step stays the same through a loop. The second product of a coordinate may be P for 0: the difference
 // and the sum reduce it.

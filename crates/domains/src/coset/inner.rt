@@ -1,59 +1,30 @@
 // Cosets whose numbers are known to be in range: what the layers above compute with. These are no public calls.
 ghost use mathlib.Core.Path.{_≡_};
-ghost use Prim.Native.Nat.{_+_, _*_, _^_, _%_, _≤_};
+ghost use mathlib.Core.Bool.{_&&_};
+ghost use Prim.Native.Nat.{_+_, _≤_};
 ghost use Rattle.algebra.specs.Doubling.{iterate};
-ghost use Rattle.circle.specs.Index.{negIndex, subgroupGen};
-ghost use Rattle.domains.specs.Coset.{hasIndices, hasWords, Fits, check, checkTwo, checkWithIndex, cosetOf, indexAt, doubled, samePoint, sameCoset, isDoublingOf, shifted, conjugated, iteratorOf};
+ghost use Rattle.circle.specs.Index.{IsIndex, subgroupGen};
+ghost use Rattle.domains.specs.Record.{Fits};
+ghost use Rattle.domains.specs.Coset.{cosetOf, indexAt, doubled, samePoint, sameCoset, isDoublingOf, shifted, conjugated, iteratorOf};
 use crate::coset::Coset;
 use crate::iterator::CosetIterator;
-use crate::record::Check;
-use crate::record::both;
-use crate::record::rows;
 use circle::index::CirclePointIndex;
 use circle::index::inner as index;
 use circle::point::CirclePoint;
-use circle::point::M31_CIRCLE_LOG_ORDER;
 use circle::point::inner as point;
-use orders::utils::inner::two_to;
+use fields::log_size::inner::two_to;
 
-pub fn has_indices(c: Coset) -> bool
-    ensures { λ r. ⌜ r ≡ hasIndices c ⌝ }
-{
-    both(
-        c.initial_index.0 <= index::MOST,
-        c.step_size.0 <= index::MOST,
-    )
-}
-
-pub fn has_words(c: Coset) -> bool
-    ensures { λ r. ⌜ r ≡ hasWords c ⌝ }
-{
-    let initial = c.initial;
-    let step = c.step;
-    both(point::is_reduced(initial), point::is_reduced(step))
-}
-
-pub fn check(c: Coset) -> Check
-    ensures { λ r. ⌜ r ≡ check c ⌝ }
-{
-    rows(
-        c.log_size <= M31_CIRCLE_LOG_ORDER,
-        has_indices(c),
-        has_words(c),
-    )
-}
-
-pub fn new(initial_index: u64, log_size: u32) -> Coset
-    requires { ⌜ («initial_index» ≤ 2 ^ 31) × («log_size» ≤ 31) ⌝ }
-    ensures { λ r. ⌜ r ≡ cosetOf «initial_index» «log_size» ⌝ }
+pub fn new(initial_index: CirclePointIndex, log_size: u32) -> Coset
+    requires { ⌜ (IsIndex «initial_index») × («log_size» ≤ 31) ⌝ }
+    ensures { λ r. ⌜ r ≡ cosetOf («initial_index» .0) «log_size» ⌝ }
 {
     let step_size = index::subgroup_gen(log_size);
     let initial = index::to_point(initial_index);
     let step = index::to_point(step_size);
     Coset {
-        initial_index: CirclePointIndex(initial_index),
+        initial_index,
         initial,
-        step_size: CirclePointIndex(step_size),
+        step_size,
         step,
         log_size,
     }
@@ -86,23 +57,18 @@ pub fn iter_indices(c: Coset) -> CosetIterator
     }
 }
 
-// An index times a count, exact modulo 2^31.
-pub fn times(k: u64, count: u64) -> u64
-    ensures { λ r. ⌜ r ≡ (k * count) % 2 ^ 31 ⌝ }
-{
-    index::reduce(index::wrapping_mul(k, count))
-}
-
 fn double(c: Coset) -> Coset
     requires { ⌜ (Fits c) × (1 ≤ c .«log_size») ⌝ }
     ensures { λ r. ⌜ (r ≡ doubled c) × (Fits r) ⌝ }
 {
+    let initial_index = index::mul(c.initial_index, 2);
     let initial = point::add(c.initial, c.initial);
+    let step_size = index::mul(c.step_size, 2);
     let step = point::add(c.step, c.step);
     Coset {
-        initial_index: CirclePointIndex(times(c.initial_index.0, 2)),
+        initial_index,
         initial,
-        step_size: CirclePointIndex(times(c.step_size.0, 2)),
+        step_size,
         step,
         log_size: c.log_size - 1,
     }
@@ -121,17 +87,13 @@ pub fn repeated_double(c: Coset, n_doubles: u32) -> Coset
     res
 }
 
-pub fn check_two(c: Coset, d: Coset) -> Check
-    ensures { λ r. ⌜ r ≡ checkTwo c d ⌝ }
+fn both(first: bool, second: bool) -> bool
+    ensures { λ r. ⌜ r ≡ (first && second) ⌝ }
 {
-    rows(
-        both(
-            c.log_size <= M31_CIRCLE_LOG_ORDER,
-            d.log_size <= M31_CIRCLE_LOG_ORDER,
-        ),
-        both(has_indices(c), has_indices(d)),
-        both(has_words(c), has_words(d)),
-    )
+    if !first {
+        return false;
+    }
+    second
 }
 
 fn same_point(p: CirclePoint, q: CirclePoint) -> bool
@@ -162,34 +124,25 @@ pub fn is_doubling_of(c: Coset, other: Coset) -> bool
     same(c, doubled)
 }
 
-pub fn index_at(c: Coset, i: u64) -> u64
+pub fn index_at(c: Coset, i: u64) -> CirclePointIndex
     requires { ⌜ Fits c ⌝ }
-    ensures { λ r. ⌜ r ≡ indexAt c i ⌝ }
+    ensures { λ r. ⌜ r .0 ≡ indexAt c i ⌝ }
 {
-    index::reduce(c.initial_index.0 + times(c.step_size.0, i))
-}
-
-pub fn check_with_index(c: Coset, k: u64) -> Check
-    ensures { λ r. ⌜ r ≡ checkWithIndex c k ⌝ }
-{
-    rows(
-        c.log_size <= M31_CIRCLE_LOG_ORDER,
-        both(has_indices(c), k <= index::MOST),
-        has_words(c),
-    )
+    let further = index::mul(c.step_size, i);
+    index::add(c.initial_index, further)
 }
 
 // The step point stays as it is.
-pub fn shift(c: Coset, k: u64) -> Coset
-    requires { ⌜ (Fits c) × (k ≤ 2 ^ 31) ⌝ }
-    ensures { λ r. ⌜ r ≡ shifted c k ⌝ }
+pub fn shift(c: Coset, k: CirclePointIndex) -> Coset
+    requires { ⌜ (Fits c) × (IsIndex k) ⌝ }
+    ensures { λ r. ⌜ r ≡ shifted c (k .0) ⌝ }
 {
-    let initial_index = index::reduce(c.initial_index.0 + k);
+    let initial_index = index::add(c.initial_index, k);
     let initial = index::to_point(initial_index);
     let step_size = c.step_size;
     let step = c.step;
     Coset {
-        initial_index: CirclePointIndex(initial_index),
+        initial_index,
         initial,
         step_size,
         step,
@@ -197,26 +150,19 @@ pub fn shift(c: Coset, k: u64) -> Coset
     }
 }
 
-pub fn neg(k: u64) -> u64
-    requires { ⌜ k ≤ 2 ^ 31 ⌝ }
-    ensures { λ r. ⌜ r ≡ negIndex k ⌝ }
-{
-    index::reduce(index::MOST - k)
-}
-
 // Both points are those of the new indices.
 pub fn conjugate(c: Coset) -> Coset
     requires { ⌜ Fits c ⌝ }
     ensures { λ r. ⌜ r ≡ conjugated c ⌝ }
 {
-    let initial_index = neg(c.initial_index.0);
-    let step_size = neg(c.step_size.0);
+    let initial_index = index::neg(c.initial_index);
+    let step_size = index::neg(c.step_size);
     let initial = index::to_point(initial_index);
     let step = index::to_point(step_size);
     Coset {
-        initial_index: CirclePointIndex(initial_index),
+        initial_index,
         initial,
-        step_size: CirclePointIndex(step_size),
+        step_size,
         step,
         log_size: c.log_size,
     }

@@ -1,5 +1,5 @@
 use borrow.Author.Needs.{needs}
-use Rattle.domains.proofs.Records.{index-fits, at-first, at-second}
+use Rattle.domains.proofs.Records.{index-at-fits, on-first, on-second}
 use Rattle.domains.proofs.domain.index_at.Statement.{statement}
 use Rattle.domains.proofs.domain.index_at.Tie as tie
 
@@ -10,16 +10,17 @@ index-at-requires : tie.Need-index-at-requires
 index-at-requires c κs = search needs
 
 returns : tie.Need-returns
-returns c = at-first _ _ _ _ (c .before .before .two-to .ensures) (c .before .if1 .taken) (c .index-at .ensures)
+returns c = on-first _ _ _ _ (c .before .before .two-to .ensures) (c .before .if1 .taken) (c .index-at .ensures)
 
 index-at-requires-2 : tie.Need-index-at-requires-2
 index-at-requires-2 c κs = search needs
 
 neg-requires : tie.Need-neg-requires
-neg-requires c κs = index-fits _ _ _ (c .index-at2 .ensures)
+neg-requires c κs = index-at-fits _ _ _ (c .index-at2 .ensures)
 
 returns-2 : tie.Need-returns-2
-returns-2 c = at-second _ _ _ _ _ (c .before .before .before .two-to .ensures) (search needs) (c .before .index-at2 .ensures) (c .neg .ensures)
+returns-2 c = on-second _ _ _ _ _ (c .before .before .before .two-to .ensures) (search needs) (c .before .index-at2 .ensures)
+    (c .neg .ensures)
 
 pub index-at-spec : {M : Type 1} → statement M
 index-at-spec =

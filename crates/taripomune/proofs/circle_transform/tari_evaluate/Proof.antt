@@ -17,7 +17,7 @@ same-length-2 : tie.Need-same-length-2
 same-length-2 c = search needs
 
 returns : tie.Need-returns
-returns c = let e = c .before .before .before .before .before .evaluate .ensures in (c .write-reply .ensures ∙ ap writeReply (e .0), e .1, e .2)
+returns c = let e = c .before .before .before .before .before .evaluate .ensures in (c .write-reply .ensures ∙ ap writeReply (e .0), e .1)
 
 pub tari-evaluate-spec : {M : Type 1} → statement M
 tari-evaluate-spec =

@@ -10,7 +10,7 @@ use Rattle.transform.proofs.twiddles.add_steps.Reads as add-steps
 use Rattle.transform.proofs.twiddles.add_steps.Kinds as add-steps-kinds
 use Rattle.transform.proofs.twiddles.+add_steps.Lts-add_steps as add-steps-lts
 use Rattle.circle.proofs.index.inner.powers.power_point.Reads as power-point-reads
-use Rattle.orders.proofs.utils.inner.two_to.Reads as two-to-reads
+use Rattle.fields.proofs.log_size.inner.two_to.Reads as two-to-reads
 use Rattle.transform.proofs.twiddles.add_points.Reads as add-points-reads
 use Rattle.transform.proofs.twiddles.+add_steps.{statement}
 use Rattle.transform.proofs.twiddles.+add_steps.Tie.{close}

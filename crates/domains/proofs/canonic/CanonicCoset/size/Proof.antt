@@ -1,25 +1,27 @@
 use borrow.Author.Needs.{needs}
-use Rattle.fields.proofs.Answers.{answers}
+use Rattle.fields.specs.AnswerLaws.{answers}
 use Rattle.domains.specs.Canonic.{sizeAnswer}
-use Rattle.domains.proofs.Records.{at-refused, canonic-fits, records}
+use Rattle.fields.specs.CheckLaws.{at-refused}
+use Rattle.domains.specs.Record.{checkCanonic}
+use Rattle.domains.proofs.Records.{canonic-fits, records}
 use Rattle.domains.proofs.canonic.CanonicCoset.size.Statement.{statement}
 use Rattle.domains.proofs.canonic.CanonicCoset.size.Tie as tie
 
-check-requires : tie.Need-check-requires
-check-requires c κs = search needs
+check-canonic-requires : tie.Need-check-canonic-requires
+check-canonic-requires c κs = search needs
 
 enum-known-record : tie.Need-enum-known-record
 enum-known-record c = search needs
 
 returns : tie.Need-returns
 unfolding sizeAnswer
-returns c = at-refused _ _ _ _ _ (c .before .before .before .check .ensures) (c .before .«record» .given .1)
+returns c = at-refused (checkCanonic _) _ _ _ _ (c .before .before .before .check-canonic .ensures) (c .before .«record» .given .1)
 
 enum-told : tie.Need-enum-told
 enum-told c = search needs
 
 two-to-requires : tie.Need-two-to-requires
-two-to-requires c κs = let f = canonic-fits _ _ (c .before .before .check .ensures) (c .enum-told .given .1) in search needs
+two-to-requires c κs = let f = canonic-fits _ _ (c .before .before .check-canonic .ensures) (c .enum-told .given .1) in search needs
 
 returns-2 : tie.Need-returns-2
 unfolding sizeAnswer
@@ -28,4 +30,4 @@ returns-2 c = search (answers, records, needs)
 pub size-spec : {M : Type 1} → statement M
 size-spec =
     tie.close
-    (tie.spec check-requires enum-known-record returns enum-told two-to-requires returns-2)
+    (tie.spec check-canonic-requires enum-known-record returns enum-told two-to-requires returns-2)

@@ -1,5 +1,5 @@
 use borrow.Author.Needs.{needs}
-use Rattle.fields.proofs.Answers.{answers}
+use Rattle.fields.specs.AnswerLaws.{answers}
 use Rattle.domains.specs.Canonic.{tryNewAnswer, canonicOf}
 use Rattle.domains.proofs.Records.{canonic-log-size, records}
 use Rattle.domains.proofs.canonic.CanonicCoset.try_new.Statement.{statement}

@@ -1,10 +1,12 @@
 use mathlib.Core.Path.{_∙_, ap}
 use borrow.Author.Needs.{needs}
 use Rattle.circle.specs.Index.{indexPoint}
-use Rattle.circle.proofs.Answers.{points}
-use Rattle.fields.proofs.Answers.{answers}
+use Rattle.circle.specs.AnswerLaws.{points}
+use Rattle.fields.specs.AnswerLaws.{answers}
 use Rattle.domains.specs.Coset.{atAnswer}
-use Rattle.domains.proofs.Records.{at-refused, index-fits, fits, records}
+use Rattle.fields.specs.CheckLaws.{at-refused}
+use Rattle.domains.specs.Record.{check}
+use Rattle.domains.proofs.Records.{index-at-fits, fits, records}
 use Rattle.domains.proofs.coset.Coset.at.Statement.{statement}
 use Rattle.domains.proofs.coset.Coset.at.Tie as tie
 
@@ -16,7 +18,7 @@ enum-known-record c = search needs
 
 returns : tie.Need-returns
 unfolding atAnswer
-returns c = at-refused _ _ _ _ _ (c .before .before .before .check .ensures) (c .before .«record» .given .1)
+returns c = at-refused (check _) _ _ _ _ (c .before .before .before .check .ensures) (c .before .«record» .given .1)
 
 enum-told : tie.Need-enum-told
 enum-told c = search needs
@@ -25,7 +27,7 @@ index-at-requires : tie.Need-index-at-requires
 index-at-requires c κs = let f = fits _ _ (c .before .before .check .ensures) (c .enum-told .given .1) in search needs
 
 to-point-requires : tie.Need-to-point-requires
-to-point-requires c κs = index-fits _ _ _ (c .index-at .ensures)
+to-point-requires c κs = index-at-fits _ _ _ (c .index-at .ensures)
 
 returns-2 : tie.Need-returns-2
 unfolding atAnswer

@@ -1,5 +1,5 @@
 use borrow.Author.Needs.{needs}
-use Rattle.fields.proofs.Answers.{answers}
+use Rattle.fields.specs.AnswerLaws.{answers}
 use Rattle.domains.specs.Coset.{doubleAnswer}
 use Rattle.domains.proofs.Records.{records}
 use Rattle.domains.proofs.coset.Coset.double.Statement.{statement}

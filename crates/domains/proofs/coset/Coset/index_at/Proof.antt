@@ -1,8 +1,10 @@
 use borrow.Author.Needs.{needs}
-use Rattle.circle.proofs.Answers.{indices}
-use Rattle.fields.proofs.Answers.{answers}
+use Rattle.circle.specs.AnswerLaws.{indices}
+use Rattle.fields.specs.AnswerLaws.{answers}
 use Rattle.domains.specs.Coset.{indexAtAnswer}
-use Rattle.domains.proofs.Records.{at-refused, fits, records}
+use Rattle.fields.specs.CheckLaws.{at-refused}
+use Rattle.domains.specs.Record.{check}
+use Rattle.domains.proofs.Records.{fits, records}
 use Rattle.domains.proofs.coset.Coset.index_at.Statement.{statement}
 use Rattle.domains.proofs.coset.Coset.index_at.Tie as tie
 
@@ -14,7 +16,7 @@ enum-known-record c = search needs
 
 returns : tie.Need-returns
 unfolding indexAtAnswer
-returns c = at-refused _ _ _ _ _ (c .before .before .before .check .ensures) (c .before .«record» .given .1)
+returns c = at-refused (check _) _ _ _ _ (c .before .before .before .check .ensures) (c .before .«record» .given .1)
 
 enum-told : tie.Need-enum-told
 enum-told c = search needs

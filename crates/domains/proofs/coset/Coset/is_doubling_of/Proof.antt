@@ -1,7 +1,9 @@
 use borrow.Author.Needs.{needs}
-use Rattle.fields.proofs.Answers.{answers}
+use Rattle.fields.specs.AnswerLaws.{answers}
 use Rattle.domains.specs.Coset.{isDoublingOfAnswer}
-use Rattle.domains.proofs.Records.{at-refused, second-fits, records}
+use Rattle.fields.specs.CheckLaws.{at-refused}
+use Rattle.domains.specs.Record.{checkTwo}
+use Rattle.domains.proofs.Records.{second-fits, records}
 use Rattle.domains.proofs.coset.Coset.is_doubling_of.Statement.{statement}
 use Rattle.domains.proofs.coset.Coset.is_doubling_of.Tie as tie
 
@@ -13,7 +15,7 @@ enum-known-records c = search needs
 
 returns : tie.Need-returns
 unfolding isDoublingOfAnswer
-returns c = at-refused _ _ _ _ _ (c .before .before .before .check-two .ensures) (c .before .records .given .1)
+returns c = at-refused (checkTwo _ _) _ _ _ _ (c .before .before .before .check-two .ensures) (c .before .records .given .1)
 
 enum-told : tie.Need-enum-told
 enum-told c = search needs

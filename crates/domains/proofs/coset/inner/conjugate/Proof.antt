@@ -1,5 +1,5 @@
-use mathlib.Core.Path.{refl, _∙_, ap}
 use borrow.Author.Needs.{needs}
+use mathlib.Core.Path.{refl, _∙_, ap}
 use Rattle.circle.specs.Index.{indexPoint}
 use Rattle.domains.specs.Coset.{conjugated}
 use Rattle.domains.proofs.Records.{coset-equal}
@@ -20,7 +20,10 @@ to-point-requires-2 c κs = search needs
 
 returns : tie.Need-returns
 unfolding conjugated
-returns c = coset-equal _ _ _ _ _ _ _ _ _ _ (c .before .before .before .neg .ensures) (c .before .to-point .ensures .0 ∙ ap indexPoint (c .before .before .before .neg .ensures)) (c .before .before .neg2 .ensures) (c .to-point2 .ensures .0 ∙ ap indexPoint (c .before .before .neg2 .ensures)) refl
+returns c =
+    coset-equal _ _ _ _ _ _ _ _ _ _ (c .before .before .before .neg .ensures)
+    (c .before .to-point .ensures .0 ∙ ap indexPoint (c .before .before .before .neg .ensures)) (c .before .before .neg2 .ensures)
+    (c .to-point2 .ensures .0 ∙ ap indexPoint (c .before .before .neg2 .ensures)) refl
 
 pub conjugate-spec : {M : Type 1} → statement M
 conjugate-spec =

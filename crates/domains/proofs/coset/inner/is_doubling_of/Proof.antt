@@ -2,7 +2,7 @@ use Prim.Native.Nat.{_-_}
 use mathlib.Core.Path.{_∙_, ap}
 use borrow.Author.Tests.{lt-leb, le-leb}
 use borrow.Author.Needs.{needs}
-use Rattle.fields.proofs.Answers.{first-fails, first-holds}
+use Rattle.fields.specs.AnswerLaws.{first-fails, first-holds}
 use Rattle.domains.specs.Coset.{sameCoset, isDoublingOf}
 use Rattle.domains.proofs.coset.inner.is_doubling_of.Statement.{statement}
 use Rattle.domains.proofs.coset.inner.is_doubling_of.Tie as tie

@@ -1,5 +1,5 @@
-use mathlib.Core.Path.{refl, _∙_, ap}
 use borrow.Author.Needs.{needs}
+use mathlib.Core.Path.{refl, _∙_, ap}
 use Rattle.circle.specs.Index.{indexPoint}
 use Rattle.domains.specs.Coset.{cosetOf}
 use Rattle.domains.proofs.Records.{coset-equal, subgroup-gen-fits}
@@ -17,7 +17,9 @@ to-point-requires-2 c κs = subgroup-gen-fits _ _ (c .before .subgroup-gen .ensu
 
 returns : tie.Need-returns
 unfolding cosetOf
-returns c = coset-equal _ _ _ _ _ _ _ _ _ _ refl (c .before .to-point .ensures .0) (c .before .before .subgroup-gen .ensures) (c .to-point2 .ensures .0 ∙ ap indexPoint (c .before .before .subgroup-gen .ensures)) refl
+returns c =
+    coset-equal _ _ _ _ _ _ _ _ _ _ refl (c .before .to-point .ensures .0) (c .before .before .subgroup-gen .ensures)
+    (c .to-point2 .ensures .0 ∙ ap indexPoint (c .before .before .subgroup-gen .ensures)) refl
 
 pub new-spec : {M : Type 1} → statement M
 new-spec = tie.close (tie.spec subgroup-gen-requires to-point-requires to-point-requires-2 returns)

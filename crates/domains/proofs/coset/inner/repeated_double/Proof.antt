@@ -2,7 +2,8 @@ use Prim.Native.Nat.{ℕ, suc, _-_, _≤_}
 use mathlib.Core.Path.{_≡_, refl, _∙_, ap}
 use native.Mathlib.Omega.{arith}
 use Rattle.algebra.specs.Doubling.{iterate}
-use Rattle.domains.specs.Coset.{Fits, doubled}
+use Rattle.domains.specs.Coset.{doubled}
+use Rattle.domains.specs.Record.{Fits}
 use Rattle.domains.specs.declared.coset.Coset.{Coset}
 use Rattle.domains.proofs.coset.inner.repeated_double.Statement.{statement}
 use Rattle.domains.proofs.coset.inner.repeated_double.Tie as tie

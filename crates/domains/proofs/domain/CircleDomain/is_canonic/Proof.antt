@@ -1,10 +1,11 @@
+use borrow.Author.Needs.{needs}
 use Prim.Native.Nat.{ℕ}
 use mathlib.Core.Path.{ap}
 use lib.Dec.{eqb}
-use borrow.Author.Needs.{needs}
+use Rattle.fields.specs.CheckLaws.{at-refused, at-passed}
 use Rattle.fields.specs.declared.answer.BoolAnswer.the-variants.{Value}
 use Rattle.domains.specs.Domain.{isCanonicAnswer}
-use Rattle.domains.proofs.Records.{at-refused, at-passed}
+use Rattle.domains.specs.Record.{check}
 use Rattle.domains.proofs.domain.CircleDomain.is_canonic.Statement.{statement}
 use Rattle.domains.proofs.domain.CircleDomain.is_canonic.Tie as tie
 
@@ -16,19 +17,21 @@ enum-known-record c = search needs
 
 returns : tie.Need-returns
 unfolding isCanonicAnswer
-returns c = at-refused _ _ _ _ _ (c .before .before .before .check .ensures) (c .before .«record» .given .1)
+returns c = at-refused (check _) _ _ _ _ (c .before .before .before .check .ensures) (c .before .«record» .given .1)
 
 enum-told : tie.Need-enum-told
 enum-told c = search needs
 
-times-requires : tie.Need-times-requires
-times-requires c κs = search needs
+mul-requires : tie.Need-mul-requires
+mul-requires c κs = search needs
 
 returns-2 : tie.Need-returns-2
 unfolding isCanonicAnswer
-returns-2 c = at-passed _ _ _ _ _ (c .before .before .before .before .check .ensures) (c .before .before .enum-told .given .1) (ap (λ (t : ℕ). Value (eqb t (c .before .before .before .before .before .before .args .self .«half_coset» .«step_size» .0))) (c .before .times .ensures))
+returns-2 c =
+    at-passed (check _) _ _ _ _ (c .before .before .before .before .before .check .ensures) (c .before .before .before .enum-told .given .1)
+    (ap (λ (t : ℕ). Value (eqb t (c .before .before .before .before .before .before .before .args .self .«half_coset» .«step_size» .0)))
+    (c .before .before .mul .ensures))
 
 pub is-canonic-spec : {M : Type 1} → statement M
 is-canonic-spec =
-    tie.close
-    (tie.spec check-requires enum-known-record returns enum-told times-requires returns-2)
+    tie.close (tie.spec check-requires enum-known-record returns enum-told mul-requires returns-2)

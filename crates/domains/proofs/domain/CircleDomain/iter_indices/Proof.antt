@@ -5,7 +5,9 @@ use Rattle.domains.specs.Domain.{domainIteratorOf, iterIndicesAnswer}
 use Rattle.domains.specs.Coset.{iteratorOf, conjugated}
 use Rattle.domains.specs.declared.iterator.CircleDomainIndexIteratorAnswer.the-variants.{Value}
 use Rattle.domains.specs.declared.coset.Coset.{Coset}
-use Rattle.domains.proofs.Records.{at-refused, fits, at-passed}
+use Rattle.fields.specs.CheckLaws.{at-refused, at-passed}
+use Rattle.domains.specs.Record.{check}
+use Rattle.domains.proofs.Records.{fits}
 use Rattle.domains.proofs.domain.CircleDomain.iter_indices.Statement.{statement}
 use Rattle.domains.proofs.domain.CircleDomain.iter_indices.Tie as tie
 
@@ -17,7 +19,7 @@ enum-known-record c = search needs
 
 returns : tie.Need-returns
 unfolding iterIndicesAnswer
-returns c = at-refused _ _ _ _ _ (c .before .before .before .check .ensures) (c .before .«record» .given .1)
+returns c = at-refused (check _) _ _ _ _ (c .before .before .before .check .ensures) (c .before .«record» .given .1)
 
 enum-told : tie.Need-enum-told
 enum-told c = search needs
@@ -39,7 +41,8 @@ unfolding iterIndicesAnswer domainIteratorOf
 returns-2 c =
     let first = c .before .before .iter-indices .ensures in
     let second = c .iter-indices2 .ensures ∙ ap iteratorOf (c .before .conjugate .ensures) in
-    at-passed _ _ _ _ _ (c .before .before .before .before .before .check .ensures) (c .before .before .before .enum-told .given .1) (λ i. Value (record { first = first i; second = second i }))
+    at-passed (check _) _ _ _ _ (c .before .before .before .before .before .check .ensures)
+    (c .before .before .before .enum-told .given .1) (λ i. Value (record { first = first i; second = second i }))
 
 pub iter-indices-spec : {M : Type 1} → statement M
 iter-indices-spec =

@@ -1,7 +1,9 @@
 use borrow.Author.Needs.{needs}
-use Rattle.fields.proofs.Answers.{answers}
+use Rattle.fields.specs.AnswerLaws.{answers}
 use Rattle.domains.specs.Domain.{logSizeAnswer}
-use Rattle.domains.proofs.Records.{at-refused, fits, records}
+use Rattle.fields.specs.CheckLaws.{at-refused}
+use Rattle.domains.specs.Record.{check}
+use Rattle.domains.proofs.Records.{fits, records}
 use Rattle.domains.proofs.domain.CircleDomain.log_size.Statement.{statement}
 use Rattle.domains.proofs.domain.CircleDomain.log_size.Tie as tie
 
@@ -13,7 +15,7 @@ enum-known-record c = search needs
 
 returns : tie.Need-returns
 unfolding logSizeAnswer
-returns c = at-refused _ _ _ _ _ (c .before .before .before .check .ensures) (c .before .«record» .given .1)
+returns c = at-refused (check _) _ _ _ _ (c .before .before .before .check .ensures) (c .before .«record» .given .1)
 
 enum-told : tie.Need-enum-told
 enum-told c = search needs

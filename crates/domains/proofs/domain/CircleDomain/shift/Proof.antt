@@ -1,7 +1,9 @@
 use borrow.Author.Needs.{needs}
-use Rattle.fields.proofs.Answers.{answers}
+use Rattle.fields.specs.AnswerLaws.{answers}
 use Rattle.domains.specs.Domain.{shiftAnswer}
-use Rattle.domains.proofs.Records.{at-refused, with-index-fits, records}
+use Rattle.fields.specs.CheckLaws.{at-refused}
+use Rattle.domains.specs.Record.{checkWithIndex}
+use Rattle.domains.proofs.Records.{with-index-fits, records}
 use Rattle.domains.proofs.domain.CircleDomain.shift.Statement.{statement}
 use Rattle.domains.proofs.domain.CircleDomain.shift.Tie as tie
 
@@ -13,7 +15,7 @@ enum-known-record c = search needs
 
 returns : tie.Need-returns
 unfolding shiftAnswer
-returns c = at-refused _ _ _ _ _ (c .before .before .before .check-with-index .ensures) (c .before .«record» .given .1)
+returns c = at-refused (checkWithIndex _ _) _ _ _ _ (c .before .before .before .check-with-index .ensures) (c .before .«record» .given .1)
 
 enum-told : tie.Need-enum-told
 enum-told c = search needs

@@ -1,12 +1,7 @@
-use Prim.Native.Nat.{_^_, _≤_, _<_}
-use mathlib.Core.Path.{refl}
 use native.Mathlib.Omega.{arith}
-use lib.ListN.{length}
 use borrow.Author.Needs.{needs}
-use Rattle.fields.proofs.Answers.{at-ltb, no-ltb}
-use Rattle.domains.specs.Domain.{splitAnswer}
-use Rattle.domains.proofs.Records.{at-refused, at-passed, fits, domain-value}
-use Rattle.domains.proofs.Shifts.{exit-of, exit-written}
+use Rattle.domains.proofs.Records.{fits}
+use Rattle.domains.proofs.Shifts.{record-refused, too-many-parts, too-few-words, parts-written}
 use Rattle.domains.proofs.domain.CircleDomain.split.Statement.{statement}
 use Rattle.domains.proofs.domain.CircleDomain.split.Tie as tie
 
@@ -17,43 +12,45 @@ enum-known-record : tie.Need-enum-known-record
 enum-known-record c = search needs
 
 returns : tie.Need-returns
-unfolding splitAnswer
-returns c = let e = at-refused _ _ _ _ _ (c .before .before .before .check .ensures) (c .before .«record» .given .1) in (e, exit-of _ _ _ _ _ e)
+returns c = record-refused _ _ _ _ _ (c .before .before .before .check .ensures) (c .before .«record» .given .1)
 
 enum-told : tie.Need-enum-told
 enum-told c = search needs
 
 returns-2 : tie.Need-returns-2
-unfolding splitAnswer
-returns-2 c =
-    let e = at-passed _ _ _ _ _ (c .before .before .before .before .check .ensures) (c .before .before .enum-told .given .1) (at-ltb _ _ _ _ _ (c .if1 .taken) refl) in
-    (e, exit-of _ _ _ _ _ e)
+returns-2 c = too-many-parts _ _ _ _ (c .before .before .before .before .check .ensures) (c .before .before .enum-told .given .1)
+    (c .if1 .taken)
 
 two-to-requires : tie.Need-two-to-requires
 two-to-requires c κs = let f = fits _ _ (c .before .before .before .before .check .ensures) (c .before .before .enum-told .given .1) in omega arith
 
 returns-3 : tie.Need-returns-3
-unfolding splitAnswer
 returns-3 c =
-    let short : length (c .before .before .before .before .before .before .before .before .before .args .shifts .now) < 2 ^ c .before .before .before .before .before .before .before .before .before .args .log-parts = omega (arith, c .before .two-to .ensures, c .if2 .taken) in
-    let e = at-passed _ _ _ _ _ (c .before .before .before .before .before .before .check .ensures) (c .before .before .before .before .enum-told .given .1) (no-ltb _ _ _ _ _ (c .before .before .if1 .left) (at-ltb _ _ _ _ _ short refl)) in
-    (e, exit-of _ _ _ _ _ e)
+    too-few-words _ _ _ _ (c .before .before .before .before .before .before .check .ensures)
+    (c .before .before .before .before .enum-told .given .1) (c .before .before .if1 .left)
+    (omega (arith, c .before .two-to .ensures, c .if2 .taken))
 
 write-shifts-requires : tie.Need-write-shifts-requires
 write-shifts-requires c κs = search needs
 
 new-requires : tie.Need-new-requires
-new-requires c κs = let f = fits _ _ (c .before .before .before .before .before .before .before .before .before .before .before .check .ensures) (c .before .before .before .before .before .before .before .before .before .enum-told .given .1) in search needs
+new-requires c κs =
+    let f = fits _ _ (c .before .before .before .before .before .before .before .before .before .before .before .check .ensures)
+    (c .before .before .before .before .before .before .before .before .before .enum-told .given .1) in
+    search needs
 
 same-length : tie.Need-same-length
 same-length c = search needs
 
 returns-4 : tie.Need-returns-4
-unfolding splitAnswer
 returns-4 c =
-    let long : 2 ^ c .before .before .before .before .before .before .before .before .before .before .before .before .before .before .before .args .log-parts ≤ length (c .before .before .before .before .before .before .before .before .before .before .before .before .before .before .before .args .shifts .now) = omega (arith, c .before .before .before .before .before .before .before .two-to .ensures, c .before .before .before .before .before .before .if2 .left) in
-    let e = at-passed _ _ _ _ _ (c .before .before .before .before .before .before .before .before .before .before .before .before .check .ensures) (c .before .before .before .before .before .before .before .before .before .before .enum-told .given .1) (no-ltb _ _ _ _ _ (c .before .before .before .before .before .before .before .before .if1 .left) (no-ltb _ _ _ _ _ long (domain-value _ _ (c .new .ensures)))) in
-    (e, exit-written _ _ _ _ _ _ _ e (c .before .before .before .before .before .before .before .two-to .ensures) (c .before .before .before .before .write-shifts .ensures))
+    let written = c .before .before .before .before in
+    let room = written .before .before in
+    let size = room .before in
+    let few = size .before in
+    let told = few .before .before in
+    parts-written _ _ _ _ (told .before .before .check .ensures) (told .enum-told .given .1) _ _ _ (few .if1 .left) (size .two-to .ensures)
+    (room .if2 .left) (c .new .ensures) (written .write-shifts .ensures)
 
 pub split-spec : {M : Type 1} → statement M
 split-spec =
