@@ -15,7 +15,7 @@ use Rattle.orders.specs.BitReverse.{reverseBits, reversed-below, pair-first, pa
 use Rattle.orders.specs.Orders.{bitReverseIndex}
 use Rattle.orders.specs.OrderLaws.{index-from-one}
 use Rattle.domains.specs.Listing.{unit, domainIndex}
-use Rattle.domains.specs.ListingLaws.{two-halves, unit-half, half-bound, domain-first, domain-second}
+use Rattle.domains.specs.PointSet.{two-halves, unit-half, half-bound, domain-first, domain-second}
 
 -- the index of point k of the half coset of the domain of log size n, in the half coset's own bit-reversed order
 abbrev pub halfIndex : ℕ → ℕ → ℕ

@@ -26,8 +26,7 @@ use Rattle.domains.specs.Domain as D
 use Rattle.domains.specs.Canonic as C
 use Rattle.domains.specs.CosetLaws.{fits-hold, canonic-hold, subgroup-gen-index, made-fits, conjugate-index}
 use Rattle.domains.specs.IteratorLaws.{walkedIndex, walked-index, domainSteps, DomainWalk, domain-walk}
-use Rattle.domains.specs.ListingLaws.{two-halves, half-bound, domain-first, domain-second}
-use Rattle.domains.specs.PointSet.{PointSet, point-set}
+use Rattle.domains.specs.PointSet.{PointSet, point-set, two-halves, half-bound, domain-first, domain-second}
 
 -- `canonic-domain` proves it for every n from 1 to 30
 pub record CanonicDomain (n : ℕ) : Type 0 where

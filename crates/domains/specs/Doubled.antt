@@ -23,7 +23,7 @@ use Rattle.circle.specs.LogOrder.{doubled-x}
 use Rattle.orders.specs.BitReverse.{reverseBits, reversed-below}
 use Rattle.orders.specs.Orders.{toCoset}
 use Rattle.domains.specs.Listing.{unit, domainIndex}
-use Rattle.domains.specs.ListingLaws.{two-halves, unit-half, half-bound, domain-first, domain-second, domain-at, domain-bound}
+use Rattle.domains.specs.PointSet.{two-halves, unit-half, half-bound, domain-first, domain-second, domain-at, domain-bound}
 use Rattle.domains.specs.BitReversed.{halfIndex, halfPoint, half-element, half-point-one}
 
 -- each point of the domain of log size n is the double of two of log size n + 1, for n from 1 to 29

@@ -8,7 +8,6 @@ pub mod Canonic
 -- laws
 pub mod CosetLaws
 pub mod IteratorLaws
-pub mod ListingLaws
 pub mod PointSet
 pub mod CanonicDomain
 pub mod BitReversed
