@@ -10,11 +10,12 @@ ghost use Rattle.fields.specs.QM31.{pairsOf};
 use fields::cm31::CM31;
 use fields::m31::M31;
 use fields::qm31::QM31;
+use fields::qm31::SECURE_EXTENSION_DEGREE;
 use fields::qm31::inner::inverse;
 use fields::qm31::inner::mul;
 
 // words of an element
-const WIDTH: usize = 4;
+const WIDTH: usize = SECURE_EXTENSION_DEGREE;
 
 // words of four
 const LANES_WIDTH: usize = 16;
