@@ -7,11 +7,11 @@ use native.Mathlib.Omega.{arith}
 use lib.Dec.{ltb}
 use borrow.Author.Tests.{leb-true, not-false}
 use Rattle.fields.specs.Check.{Checks, need, checked, outcome}
-use Rattle.fields.specs.CheckLaws.{Hold, hold-split, passed-hold, at-refused, at-passed}
+use Rattle.fields.specs.CheckLaws.{Hold, hold-split, passed-hold, at-passed}
 use Rattle.fields.specs.LogSize.{isLogSize}
 use Rattle.fields.specs.LogSizeLaws.{log-size-fits}
 use Rattle.fields.specs.declared.check.Check.{Check}
-use Rattle.fields.specs.declared.check.Check.the-variants.{Passed, Refused}
+use Rattle.fields.specs.declared.check.Check.the-variants.{Passed}
 use Rattle.fields.specs.declared.refusal.Refusal.{Refusal}
 use Rattle.fields.specs.declared.refusal.Refusal.the-variants.{LogSize}
 use Rattle.circle.specs.Point.{Reduced, reduced, pointOf, ofPoint}
@@ -34,48 +34,23 @@ use Rattle.domains.specs.declared.iterator.CircleDomainIndexIterator.{Ci
 
 -- ---- r is what the checks of a record said
 
-abbrev Refuses : Checks → Type 1
-Refuses checks = (A : Type 0) (r : Check) (why : Refusal) (f : Refusal → A) (a : A) → r ≡ outcome checks → r ≡ Refused why
-    → f why ≡ checked checks f a
-
 abbrev Passes : Checks → Type 1
 Passes checks = (A : Type 0) (r : Check) (f : Refusal → A) (x a : A) → r ≡ outcome checks → r ≡ Passed → x ≡ a → x ≡ checked checks f a
-
-pub coset-refused : (c : Coset) → Refuses (check c)
-coset-refused c A = at-refused (check c)
 
 pub coset-passed : (c : Coset) → Passes (check c)
 coset-passed c A = at-passed (check c)
 
-pub canonic-refused : (c : CanonicCoset) → Refuses (checkCanonic c)
-canonic-refused c A = at-refused (checkCanonic c)
-
 pub canonic-passed : (c : CanonicCoset) → Passes (checkCanonic c)
 canonic-passed c A = at-passed (checkCanonic c)
-
-pub two-refused : (c d : Coset) → Refuses (checkTwo c d)
-two-refused c d A = at-refused (checkTwo c d)
 
 pub two-passed : (c d : Coset) → Passes (checkTwo c d)
 two-passed c d A = at-passed (checkTwo c d)
 
-pub with-index-refused : (c : Coset) (k : CirclePointIndex) → Refuses (checkWithIndex c k)
-with-index-refused c k A = at-refused (checkWithIndex c k)
-
 pub with-index-passed : (c : Coset) (k : CirclePointIndex) → Passes (checkWithIndex c k)
 with-index-passed c k A = at-passed (checkWithIndex c k)
 
-pub iterator-refused : (it : CosetIterator) → Refuses (T.check it)
-iterator-refused it A = at-refused (T.check it)
-
 pub iterator-passed : (it : CosetIterator) → Passes (T.check it)
 iterator-passed it A = at-passed (T.check it)
-
-pub domain-iterator-refused : (it : CircleDomainIndexIterator) → Refuses (T.checkBoth it)
-domain-iterator-refused it A = at-refused (T.checkBoth it)
-
-pub domain-iterator-passed : (it : CircleDomainIndexIterator) → Passes (T.checkBoth it)
-domain-iterator-passed it A = at-passed (T.checkBoth it)
 
 -- ---- what a record has that passes
 
@@ -194,22 +169,7 @@ canonic-value c d e = ap (λ (t : Coset). CA.Value (record { coset = t })) e
 pub domain-value : (c d : Coset) → c ≡ d → DA.Value (ofHalf c) ≡ DA.Value (ofHalf d)
 domain-value c d e = ap (λ (t : Coset). DA.Value (ofHalf t)) e
 
-pub ruleset records = (
-  coset-refused,
-  coset-passed,
-  canonic-refused,
-  canonic-passed,
-  two-refused,
-  two-passed,
-  with-index-refused,
-  with-index-passed,
-  iterator-refused,
-  iterator-passed,
-  domain-iterator-refused,
-  domain-iterator-passed,
-  canonic-value,
-  domain-value,
-)
+pub ruleset records = (coset-passed, canonic-passed, two-passed, with-index-passed, iterator-passed, canonic-value, domain-value)
 
 -- ---- records that are equal field by field
 
