@@ -1,9 +1,9 @@
 //! Circle columns over the Mersenne prime P = 2^31 - 1: safe types over the proved library `libtaripomune.a`.
 //!
 //! Names are those of the Rust of stwo, which the library ports. What every function answers is proved, refusals
-//! included, and stands in the repository's README under "Where to read what is promised"; "document 01" there is the
-//! project's scope document. This crate only passes values on. A value that exists is good, so a function refuses
-//! only what its type can't rule out, and then answers with a [`Refusal`]. Operators stand where no refusal is possible.
+//! included: the repository's `docs/CALLS.md` has the definitions. This crate only passes values on. A value that exists
+//! is good, so a function refuses only what its type can't rule out, and then answers with a [`Refusal`]. Operators stand
+//! where no refusal is possible.
 //!
 //! ```
 //! use taripomune::{Refusal, evaluate, interpolate};
@@ -59,3 +59,9 @@ pub use orders::{
 };
 pub use refusal::Refusal;
 pub use transform::{evaluate, interpolate};
+
+/// The version of the library's C interface, `TARI_VERSION` of its header: it is raised with every change of the header
+/// or of an answer.
+pub fn version() -> u32 {
+    call::accepted(call!(tari_version()))
+}

@@ -3,7 +3,7 @@
 use std::error::Error;
 use std::fmt;
 
-/// Why a call is refused: a case for each row of document 01's table, in its order, which is the order of checking.
+/// Why a call is refused: a case for each row of the table in `docs/CALLS.md`, in its order, which is that of checking.
 /// A refused call has written no word of any slice lent to it.
 ///
 /// ```
@@ -45,7 +45,7 @@ pub enum Refusal {
 }
 
 impl Refusal {
-    /// Document 01's number.
+    /// Its number in that table.
     pub const fn number(self) -> u32 {
         match self {
             Refusal::LogSize => 6,

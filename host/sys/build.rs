@@ -42,7 +42,7 @@ fn reply(Reply { name, fields }: &Reply) -> String {
 
 /// A function of numbers alone ends on every input and touches nothing, so that any caller may call it.
 fn function(prototype: &Prototype) -> String {
-    let Prototype { name, reply, parameters } = prototype;
+    let Prototype { name, reply, parameters, .. } = prototype;
     let parameters: Vec<String> = parameters.iter().map(declared).collect();
     let safety = if prototype.has_slices() { "unsafe" } else { "safe" };
     format!("    pub {safety} fn {name}({}) -> {reply};\n", parameters.join(", "))

@@ -10,7 +10,7 @@ fn index(value: usize) -> CirclePointIndex {
     CirclePointIndex::new(value).unwrap()
 }
 
-/// Calls that are refused, each with the number and position of document 01.
+/// Calls that are refused, each with its number and position.
 fn refused_calls() -> Vec<(u32, u64, Refusal)> {
     let one = M31::one();
     vec![

@@ -13,7 +13,7 @@ use borrow.Author.Tests.{leb-true, leb-false, le-leb, eqb-true, eqb-false, not-t
 use borrow.Rule.Slice.PartMut.{midOf, putMid, mid-len}
 use Rattle.algebra.specs.M31.{P}
 use Rattle.batch.specs.Batch.{Layout, ColumnField, m31Column, cm31Column, qm31Column, columnOf, inverted}
-use Rattle.batch.specs.Batch.{firstZero, count, lengthsFit, nonzero, wordsAnswer, batchAnswer, batchExit}
+use Rattle.batch.specs.Batch.{firstZero, count, lengthsFit, nonzero, wordsAnswer, inPlaceAnswer, chunkedAnswer, batchExit}
 use Rattle.batch.specs.Layouts.{LayoutLaws}
 use Rattle.batch.specs.Passes.{Units, Column, Holds, size, at, inverses, unitsOf}
 use Rattle.batch.specs.PassContracts.{Inverted}
@@ -60,6 +60,11 @@ module _ (F : ColumnField) (column : List ℕ) where
   pub no-zero : wordsAnswer F column ≡ Written → None (zeroAt F column) (count F column)
   no-zero e = none-found (zeroAt F column) (count F column) (leb-true (count F column) (firstZero F column) (all-hold e .1 .0))
 
+-- chunks of one element are refused as no chunks are
+pub chunked-by-one : (F : ColumnField) (column : List ℕ) (dst : ℕ) → chunkedAnswer F 1 column dst ≡ inPlaceAnswer F column dst
+unfolding chunkedAnswer inPlaceAnswer
+chunked-by-one F column dst = refl
+
 -- what an accepted batch passed
 pub record Accepted (F : ColumnField) (chunk : ℕ) (column : List ℕ) (dst : ℕ) : Type 0 where
   pub whole : length column % F .layout .width ≡ 0
@@ -67,9 +72,9 @@ pub record Accepted (F : ColumnField) (chunk : ℕ) (column : List ℕ) (dst : �
   pub chunked : 0 < chunk
   pub words : wordsAnswer F column ≡ Written
 
-pub accepted : (F : ColumnField) (chunk : ℕ) (column : List ℕ) (dst : ℕ) → batchAnswer F chunk column dst ≡ Written
+pub accepted : (F : ColumnField) (chunk : ℕ) (column : List ℕ) (dst : ℕ) → chunkedAnswer F chunk column dst ≡ Written
     → Accepted F chunk column dst
-unfolding batchAnswer wordsAnswer
+unfolding chunkedAnswer wordsAnswer
 accepted F chunk column dst e =
     let tests = need (lengthsFit F (length column) dst) Length ++ (need (not (eqb chunk 0)) Chunk ++ (words column ++ nonzero F column)) in
     let lengths = hold-split (need (lengthsFit F (length column) dst) Length)

@@ -9,7 +9,7 @@ use lib.Dec.{leb}
 use lib.ListN.{length}
 use borrow.Author.Tests.{leb-false}
 use borrow.Rule.Slice.PartMut.{midOf, putMid, mid-len, same-len-mid}
-use Rattle.batch.specs.Batch.{Layout, columnOf, batchAnswer}
+use Rattle.batch.specs.Batch.{Layout, columnOf, chunkedAnswer}
 use Rattle.batch.specs.Passes.{Units, Holds, size, inverses, unitsOf}
 use Rattle.batch.specs.PassContracts.{Inverting, InvertingParts, Inverted}
 use Rattle.batch.specs.declared.Field.{Field}
@@ -113,7 +113,7 @@ module _ {U : Units} {column dst₀ : List ℕ} {words : ℕ} (p : InvertingPart
       }
 
 -- an accepted batch can be inverted in one part, and chunk by chunk
-module _ (f : Field) (chunk : ℕ) {column dst : List ℕ} (e : batchAnswer (columnOf f) chunk column (length dst) ≡ Written) where
+module _ (f : Field) (chunk : ℕ) {column dst : List ℕ} (e : chunkedAnswer (columnOf f) chunk column (length dst) ≡ Written) where
   pub one-part : InvertingParts (unitsOf f) column dst (length column)
   one-part =
       let ok = accepted (columnOf f) chunk column (length dst) e in

@@ -4,7 +4,7 @@ ghost use mathlib.Core.Bool.{true, cond, _&&_};
 ghost use Prim.Native.Nat.{_+_, _*_, _/_, _-_, _%_, _≤_, _<_};
 ghost use lib.Dec.{leb, eqb};
 ghost use lib.ListN.{length};
-ghost use Rattle.batch.specs.Batch.{columnOf, firstZero, wordsAnswer, batchAnswer, batchExit, m31Column};
+ghost use Rattle.batch.specs.Batch.{columnOf, firstZero, wordsAnswer, inPlaceAnswer, chunkedAnswer, batchExit, m31Column};
 ghost use Rattle.batch.specs.Passes.{unitsOf};
 ghost use Rattle.batch.specs.PassContracts.{Inverting, InvertingParts, Inverted};
 ghost use Rattle.fields.specs.declared.answer.WriteAnswer.the-variants.{Written};
@@ -122,7 +122,7 @@ fn check_words(field: Field, column: &[u32]) -> WriteAnswer
 
 // What a batch answers, before anything is written.
 fn check(field: Field, chunk: usize, column: &[u32], dst: usize) -> WriteAnswer
-    ensures { λ r. ⌜ r ≡ batchAnswer (columnOf field) chunk (now (column .entry)) dst ⌝ }
+    ensures { λ r. ⌜ r ≡ chunkedAnswer (columnOf field) chunk (now (column .entry)) dst ⌝ }
 {
     if !lengths_fit(width(field), column.len(), dst) {
         return WriteAnswer::Refused(Refusal::Length);
@@ -182,7 +182,7 @@ fn part_words(words: usize, chunk: usize, column: usize) -> usize
 
 // Element k of the destination becomes the inverse of element k of the column.
 pub fn batch_inverse_in_place(field: Field, column: &[u32], dst: &mut [u32]) -> WriteAnswer
-    ensures { λ r. ⌜ (r ≡ batchAnswer (columnOf field) 1 (now (column .entry)) (length (now (dst .entry)))) × (now (dst .exit) ≡ batchExit (columnOf field) (batchAnswer (columnOf field) 1 (now (column .entry)) (length (now (dst .entry)))) (now (column .entry)) (now (dst .entry))) ⌝ }
+    ensures { λ r. ⌜ (r ≡ inPlaceAnswer (columnOf field) (now (column .entry)) (length (now (dst .entry)))) × (now (dst .exit) ≡ batchExit (columnOf field) (inPlaceAnswer (columnOf field) (now (column .entry)) (length (now (dst .entry)))) (now (column .entry)) (now (dst .entry))) ⌝ }
 {
     let answer = check(field, 1, column, dst.len());
     let WriteAnswer::Written = answer else {
@@ -199,7 +199,7 @@ pub fn batch_inverse_chunked(
     dst: &mut [u32],
     chunk: usize,
 ) -> WriteAnswer
-    ensures { λ r. ⌜ (r ≡ batchAnswer (columnOf field) chunk (now (column .entry)) (length (now (dst .entry)))) × (now (dst .exit) ≡ batchExit (columnOf field) (batchAnswer (columnOf field) chunk (now (column .entry)) (length (now (dst .entry)))) (now (column .entry)) (now (dst .entry))) ⌝ }
+    ensures { λ r. ⌜ (r ≡ chunkedAnswer (columnOf field) chunk (now (column .entry)) (length (now (dst .entry)))) × (now (dst .exit) ≡ batchExit (columnOf field) (chunkedAnswer (columnOf field) chunk (now (column .entry)) (length (now (dst .entry)))) (now (column .entry)) (now (dst .entry))) ⌝ }
 {
     let answer = check(field, chunk, column, dst.len());
     let WriteAnswer::Written = answer else {

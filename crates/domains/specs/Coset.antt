@@ -37,8 +37,7 @@ unfoldable pub newAnswer : CirclePointIndex → ℕ → CosetAnswer
 newAnswer k n = checked (need (leb n 31) LogSize ++ inRange k) Refused (Value (cosetOf (k .0) n))
 
 unfoldable pub subgroupAnswer : ℕ → CosetAnswer
-unfolding newAnswer
-subgroupAnswer n = newAnswer (ofIndex 0) n
+subgroupAnswer n = checked (need (leb n 31) LogSize) Refused (Value (cosetOf 0 n))
 
 unfoldable pub oddsAnswer : ℕ → CosetAnswer
 oddsAnswer n = checked (need (leb n 30) LogSize) Refused (Value (cosetOf (subgroupGen (n + 1)) n))

@@ -1,9 +1,9 @@
 -- Where every word of a column goes, and what each call answers: document 01's Orders, and its offset and previous.
 use Prim.Native.Nat.{ℕ, zero, suc, _+_, _-_, _*_, _/_, _%_, _^_}
-use mathlib.Core.Bool.{Bool, cond, not, _&&_}
+use mathlib.Core.Bool.{Bool, true, cond, not, _&&_}
 use mathlib.Core.List.{List, [], _∷_, _++_}
 use lib.Dec.{leb, ltb, eqb}
-use lib.IntN.{ℤ, negsuc}
+use lib.IntN.{ℤ}
 use lib.ListN.{length, getD, drop}
 use Rattle.fields.specs.Check.{need, checked}
 use Rattle.fields.specs.LogSize.{isLogSize}
@@ -109,7 +109,7 @@ offsetAnswer i domain eval offset =
     checked (need (isSmallerDomain domain eval) LogSize ++ need (leb (partsOf offset .size) (2 ^ 31)) Scalar) Refused
     (Value (offsetIndex i domain eval (partsOf offset .negative) (partsOf offset .size)))
 
--- negsuc 0 is -1
+-- such log sizes, else number 6; one step back
 unfoldable pub previousAnswer : ℕ → ℕ → ℕ → U64Answer
-unfolding offsetAnswer
-previousAnswer i domain eval = offsetAnswer i domain eval (negsuc 0)
+previousAnswer i domain eval =
+    checked (need (isSmallerDomain domain eval) LogSize) Refused (Value (offsetIndex i domain eval true 1))

@@ -32,7 +32,13 @@ use Rattle.taripomune.specs.declared.coset_reply.CircleDomainStepReply.{
 
 -- initial index, x and y; step index, x and y; log size
 unfoldable pub ofNumbers : ℕ → ℕ → ℕ → ℕ → ℕ → ℕ → ℕ → Coset
-ofNumbers k x y s u v n = record { «initial_index» = ofIndex k; initial = ofPoint (x, y); «step_size» = ofIndex s; step = ofPoint (u, v); «log_size» = n }
+ofNumbers k x y s u v n = record {
+  «initial_index» = ofIndex k;
+  initial = ofPoint (x, y);
+  «step_size» = ofIndex s;
+  step = ofPoint (u, v);
+  «log_size» = n;
+}
 
 -- a canonic coset as its coset
 unfoldable pub canonicOfNumbers : ℕ → ℕ → ℕ → ℕ → ℕ → ℕ → ℕ → CanonicCoset
@@ -52,8 +58,28 @@ indexIteratorOfNumbers a b c d e f = record { first = iteratorOfNumbers a b c; s
 -- ---- replies
 
 unfoldable pub cosetReply : CosetAnswer → CosetReply
-cosetReply (Value c) = record { number = 0; position = 0; «initial_index» = c .«initial_index» .0; «initial_x» = c .initial .x .0; «initial_y» = c .initial .y .0; «step_index» = c .«step_size» .0; «step_x» = c .step .x .0; «step_y» = c .step .y .0; «log_size» = c .«log_size» }
-cosetReply (Refused why) = record { number = numberOf why; position = positionOf why; «initial_index» = 0; «initial_x» = 0; «initial_y» = 0; «step_index» = 0; «step_x» = 0; «step_y» = 0; «log_size» = 0 }
+cosetReply (Value c) = record {
+  number = 0;
+  position = 0;
+  «initial_index» = c .«initial_index» .0;
+  «initial_x» = c .initial .x .0;
+  «initial_y» = c .initial .y .0;
+  «step_index» = c .«step_size» .0;
+  «step_x» = c .step .x .0;
+  «step_y» = c .step .y .0;
+  «log_size» = c .«log_size»;
+}
+cosetReply (Refused why) = record {
+  number = numberOf why;
+  position = positionOf why;
+  «initial_index» = 0;
+  «initial_x» = 0;
+  «initial_y» = 0;
+  «step_index» = 0;
+  «step_x» = 0;
+  «step_y» = 0;
+  «log_size» = 0;
+}
 
 -- its coset
 unfoldable pub canonicCosetReply : CanonicCosetAnswer → CosetReply
@@ -66,20 +92,107 @@ circleDomainReply (D.Value d) = cosetReply (Value (d .«half_coset»))
 circleDomainReply (D.Refused why) = cosetReply (Refused why)
 
 unfoldable pub cosetIteratorReply : CosetIteratorAnswer → CosetIteratorReply
-cosetIteratorReply (T.Value it) = record { number = 0; position = 0; cur = it .cur .0; step = it .step .0; remaining = it .remaining }
-cosetIteratorReply (T.Refused why) = record { number = numberOf why; position = positionOf why; cur = 0; step = 0; remaining = 0 }
+cosetIteratorReply (T.Value it) = record {
+  number = 0;
+  position = 0;
+  cur = it .cur .0;
+  step = it .step .0;
+  remaining = it .remaining;
+}
+cosetIteratorReply (T.Refused why) = record {
+  number = numberOf why;
+  position = positionOf why;
+  cur = 0;
+  step = 0;
+  remaining = 0;
+}
 
 -- done or not, the index, the iterator after the step
 unfoldable pub cosetStepReply : CosetStep → CosetStepReply
-cosetStepReply (S.Next index it) = record { number = 0; position = 0; done = 0; index = index .0; cur = it .cur .0; step = it .step .0; remaining = it .remaining }
-cosetStepReply (S.Done it) = record { number = 0; position = 0; done = 1; index = 0; cur = it .cur .0; step = it .step .0; remaining = it .remaining }
-cosetStepReply (S.Refused why) = record { number = numberOf why; position = positionOf why; done = 0; index = 0; cur = 0; step = 0; remaining = 0 }
+cosetStepReply (S.Next index it) = record {
+  number = 0;
+  position = 0;
+  done = 0;
+  index = index .0;
+  cur = it .cur .0;
+  step = it .step .0;
+  remaining = it .remaining;
+}
+cosetStepReply (S.Done it) = record {
+  number = 0;
+  position = 0;
+  done = 1;
+  index = 0;
+  cur = it .cur .0;
+  step = it .step .0;
+  remaining = it .remaining;
+}
+cosetStepReply (S.Refused why) = record {
+  number = numberOf why;
+  position = positionOf why;
+  done = 0;
+  index = 0;
+  cur = 0;
+  step = 0;
+  remaining = 0;
+}
 
 unfoldable pub indexIteratorReply : CircleDomainIndexIteratorAnswer → CircleDomainIndexIteratorReply
-indexIteratorReply (I.Value it) = record { number = 0; position = 0; «first_cur» = it .first .cur .0; «first_step» = it .first .step .0; «first_remaining» = it .first .remaining; «second_cur» = it .second .cur .0; «second_step» = it .second .step .0; «second_remaining» = it .second .remaining }
-indexIteratorReply (I.Refused why) = record { number = numberOf why; position = positionOf why; «first_cur» = 0; «first_step» = 0; «first_remaining» = 0; «second_cur» = 0; «second_step» = 0; «second_remaining» = 0 }
+indexIteratorReply (I.Value it) = record {
+  number = 0;
+  position = 0;
+  «first_cur» = it .first .cur .0;
+  «first_step» = it .first .step .0;
+  «first_remaining» = it .first .remaining;
+  «second_cur» = it .second .cur .0;
+  «second_step» = it .second .step .0;
+  «second_remaining» = it .second .remaining;
+}
+indexIteratorReply (I.Refused why) = record {
+  number = numberOf why;
+  position = positionOf why;
+  «first_cur» = 0;
+  «first_step» = 0;
+  «first_remaining» = 0;
+  «second_cur» = 0;
+  «second_step» = 0;
+  «second_remaining» = 0;
+}
 
 unfoldable pub circleDomainStepReply : CircleDomainStep → CircleDomainStepReply
-circleDomainStepReply (N.Next index it) = record { number = 0; position = 0; done = 0; index = index .0; «first_cur» = it .first .cur .0; «first_step» = it .first .step .0; «first_remaining» = it .first .remaining; «second_cur» = it .second .cur .0; «second_step» = it .second .step .0; «second_remaining» = it .second .remaining }
-circleDomainStepReply (N.Done it) = record { number = 0; position = 0; done = 1; index = 0; «first_cur» = it .first .cur .0; «first_step» = it .first .step .0; «first_remaining» = it .first .remaining; «second_cur» = it .second .cur .0; «second_step» = it .second .step .0; «second_remaining» = it .second .remaining }
-circleDomainStepReply (N.Refused why) = record { number = numberOf why; position = positionOf why; done = 0; index = 0; «first_cur» = 0; «first_step» = 0; «first_remaining» = 0; «second_cur» = 0; «second_step» = 0; «second_remaining» = 0 }
+circleDomainStepReply (N.Next index it) = record {
+  number = 0;
+  position = 0;
+  done = 0;
+  index = index .0;
+  «first_cur» = it .first .cur .0;
+  «first_step» = it .first .step .0;
+  «first_remaining» = it .first .remaining;
+  «second_cur» = it .second .cur .0;
+  «second_step» = it .second .step .0;
+  «second_remaining» = it .second .remaining;
+}
+circleDomainStepReply (N.Done it) = record {
+  number = 0;
+  position = 0;
+  done = 1;
+  index = 0;
+  «first_cur» = it .first .cur .0;
+  «first_step» = it .first .step .0;
+  «first_remaining» = it .first .remaining;
+  «second_cur» = it .second .cur .0;
+  «second_step» = it .second .step .0;
+  «second_remaining» = it .second .remaining;
+}
+circleDomainStepReply (N.Refused why) = record {
+  number = numberOf why;
+  position = positionOf why;
+  done = 0;
+  index = 0;
+  «first_cur» = 0;
+  «first_step» = 0;
+  «first_remaining» = 0;
+  «second_cur» = 0;
+  «second_step» = 0;
+  «second_remaining» = 0;
+}

@@ -62,7 +62,14 @@ cm31Reply (C.Refused why) = record { number = numberOf why; position = positionO
 
 -- the words of (a + bi) + (c + di)u
 unfoldable pub qm31Reply : QM31Answer → QM31Reply
-qm31Reply (Q.Value x) = record { number = 0; position = 0; a = x .0 .0 .0; b = x .0 .1 .0; c = x .1 .0 .0; d = x .1 .1 .0 }
+qm31Reply (Q.Value x) = record {
+  number = 0;
+  position = 0;
+  a = x .0 .0 .0;
+  b = x .0 .1 .0;
+  c = x .1 .0 .0;
+  d = x .1 .1 .0;
+}
 qm31Reply (Q.Refused why) = record { number = numberOf why; position = positionOf why; a = 0; b = 0; c = 0; d = 0 }
 
 -- an array of four words crosses as an element of QM31 does
@@ -77,8 +84,30 @@ pointReply (P.Refused why) = record { number = numberOf why; position = position
 
 -- the words of x and then of y
 unfoldable pub securePointReply : SecureCirclePointAnswer → SecurePointReply
-securePointReply (S.Value value) = record { number = 0; position = 0; x0 = value .x .0 .0 .0; x1 = value .x .0 .1 .0; x2 = value .x .1 .0 .0; x3 = value .x .1 .1 .0; y0 = value .y .0 .0 .0; y1 = value .y .0 .1 .0; y2 = value .y .1 .0 .0; y3 = value .y .1 .1 .0 }
-securePointReply (S.Refused why) = record { number = numberOf why; position = positionOf why; x0 = 0; x1 = 0; x2 = 0; x3 = 0; y0 = 0; y1 = 0; y2 = 0; y3 = 0 }
+securePointReply (S.Value value) = record {
+  number = 0;
+  position = 0;
+  x0 = value .x .0 .0 .0;
+  x1 = value .x .0 .1 .0;
+  x2 = value .x .1 .0 .0;
+  x3 = value .x .1 .1 .0;
+  y0 = value .y .0 .0 .0;
+  y1 = value .y .0 .1 .0;
+  y2 = value .y .1 .0 .0;
+  y3 = value .y .1 .1 .0;
+}
+securePointReply (S.Refused why) = record {
+  number = numberOf why;
+  position = positionOf why;
+  x0 = 0;
+  x1 = 0;
+  x2 = 0;
+  x3 = 0;
+  y0 = 0;
+  y1 = 0;
+  y2 = 0;
+  y3 = 0;
+}
 
 unfoldable pub indexReply : CirclePointIndexAnswer → IndexReply
 indexReply (I.Value value) = record { number = 0; position = 0; index = value .0 }

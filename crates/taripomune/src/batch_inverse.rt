@@ -1,7 +1,7 @@
 // Batch inversion of columns of words (batch).
 ghost use mathlib.Core.Path.{_≡_};
 ghost use lib.ListN.{length};
-ghost use Rattle.batch.specs.Batch.{m31Column, cm31Column, qm31Column, batchAnswer, batchExit};
+ghost use Rattle.batch.specs.Batch.{m31Column, cm31Column, qm31Column, inPlaceAnswer, chunkedAnswer, batchExit};
 ghost use Rattle.taripomune.specs.Reply.{writeReply};
 use crate::reply::WriteReply;
 use crate::reply::write_reply;
@@ -11,7 +11,9 @@ use batch::batch_inverse_in_place;
 
 #[no_mangle]
 pub extern "C" fn tari_m31_batch_inverse_in_place(column: &[u32], dst: &mut [u32]) -> WriteReply
-    ensures { λ r. ⌜ (r ≡ writeReply (batchAnswer m31Column 1 (now (column .entry)) (length (now (dst .entry))))) × (now (dst .exit) ≡ batchExit m31Column (batchAnswer m31Column 1 (now (column .entry)) (length (now (dst .entry)))) (now (column .entry)) (now (dst .entry))) ⌝ }
+    ensures { λ r. ⌜ (r ≡ writeReply (inPlaceAnswer m31Column (now (column .entry)) (length (now (dst .entry)))))
+        × (now (dst .exit) ≡ batchExit m31Column (inPlaceAnswer m31Column (now (column .entry)) (length (now (dst .entry))))
+        (now (column .entry)) (now (dst .entry))) ⌝ }
 {
     write_reply(batch_inverse_in_place(Field::M31, column, dst))
 }
@@ -22,14 +24,18 @@ pub extern "C" fn tari_m31_batch_inverse_chunked(
     dst: &mut [u32],
     chunk: u64,
 ) -> WriteReply
-    ensures { λ r. ⌜ (r ≡ writeReply (batchAnswer m31Column chunk (now (column .entry)) (length (now (dst .entry))))) × (now (dst .exit) ≡ batchExit m31Column (batchAnswer m31Column chunk (now (column .entry)) (length (now (dst .entry)))) (now (column .entry)) (now (dst .entry))) ⌝ }
+    ensures { λ r. ⌜ (r ≡ writeReply (chunkedAnswer m31Column chunk (now (column .entry)) (length (now (dst .entry)))))
+        × (now (dst .exit) ≡ batchExit m31Column (chunkedAnswer m31Column chunk (now (column .entry)) (length (now (dst .entry))))
+        (now (column .entry)) (now (dst .entry))) ⌝ }
 {
     write_reply(batch_inverse_chunked(Field::M31, column, dst, chunk as usize))
 }
 
 #[no_mangle]
 pub extern "C" fn tari_cm31_batch_inverse_in_place(column: &[u32], dst: &mut [u32]) -> WriteReply
-    ensures { λ r. ⌜ (r ≡ writeReply (batchAnswer cm31Column 1 (now (column .entry)) (length (now (dst .entry))))) × (now (dst .exit) ≡ batchExit cm31Column (batchAnswer cm31Column 1 (now (column .entry)) (length (now (dst .entry)))) (now (column .entry)) (now (dst .entry))) ⌝ }
+    ensures { λ r. ⌜ (r ≡ writeReply (inPlaceAnswer cm31Column (now (column .entry)) (length (now (dst .entry)))))
+        × (now (dst .exit) ≡ batchExit cm31Column (inPlaceAnswer cm31Column (now (column .entry)) (length (now (dst .entry))))
+        (now (column .entry)) (now (dst .entry))) ⌝ }
 {
     write_reply(batch_inverse_in_place(Field::CM31, column, dst))
 }
@@ -40,14 +46,18 @@ pub extern "C" fn tari_cm31_batch_inverse_chunked(
     dst: &mut [u32],
     chunk: u64,
 ) -> WriteReply
-    ensures { λ r. ⌜ (r ≡ writeReply (batchAnswer cm31Column chunk (now (column .entry)) (length (now (dst .entry))))) × (now (dst .exit) ≡ batchExit cm31Column (batchAnswer cm31Column chunk (now (column .entry)) (length (now (dst .entry)))) (now (column .entry)) (now (dst .entry))) ⌝ }
+    ensures { λ r. ⌜ (r ≡ writeReply (chunkedAnswer cm31Column chunk (now (column .entry)) (length (now (dst .entry)))))
+        × (now (dst .exit) ≡ batchExit cm31Column (chunkedAnswer cm31Column chunk (now (column .entry)) (length (now (dst .entry))))
+        (now (column .entry)) (now (dst .entry))) ⌝ }
 {
     write_reply(batch_inverse_chunked(Field::CM31, column, dst, chunk as usize))
 }
 
 #[no_mangle]
 pub extern "C" fn tari_qm31_batch_inverse_in_place(column: &[u32], dst: &mut [u32]) -> WriteReply
-    ensures { λ r. ⌜ (r ≡ writeReply (batchAnswer qm31Column 1 (now (column .entry)) (length (now (dst .entry))))) × (now (dst .exit) ≡ batchExit qm31Column (batchAnswer qm31Column 1 (now (column .entry)) (length (now (dst .entry)))) (now (column .entry)) (now (dst .entry))) ⌝ }
+    ensures { λ r. ⌜ (r ≡ writeReply (inPlaceAnswer qm31Column (now (column .entry)) (length (now (dst .entry)))))
+        × (now (dst .exit) ≡ batchExit qm31Column (inPlaceAnswer qm31Column (now (column .entry)) (length (now (dst .entry))))
+        (now (column .entry)) (now (dst .entry))) ⌝ }
 {
     write_reply(batch_inverse_in_place(Field::QM31, column, dst))
 }
@@ -58,7 +68,9 @@ pub extern "C" fn tari_qm31_batch_inverse_chunked(
     dst: &mut [u32],
     chunk: u64,
 ) -> WriteReply
-    ensures { λ r. ⌜ (r ≡ writeReply (batchAnswer qm31Column chunk (now (column .entry)) (length (now (dst .entry))))) × (now (dst .exit) ≡ batchExit qm31Column (batchAnswer qm31Column chunk (now (column .entry)) (length (now (dst .entry)))) (now (column .entry)) (now (dst .entry))) ⌝ }
+    ensures { λ r. ⌜ (r ≡ writeReply (chunkedAnswer qm31Column chunk (now (column .entry)) (length (now (dst .entry)))))
+        × (now (dst .exit) ≡ batchExit qm31Column (chunkedAnswer qm31Column chunk (now (column .entry)) (length (now (dst .entry))))
+        (now (column .entry)) (now (dst .entry))) ⌝ }
 {
     write_reply(batch_inverse_chunked(Field::QM31, column, dst, chunk as usize))
 }

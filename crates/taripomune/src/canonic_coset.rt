@@ -1,6 +1,8 @@
 // Canonic cosets (domains::canonic).
 ghost use mathlib.Core.Path.{_≡_};
-ghost use Rattle.domains.specs.Canonic.{tryNewAnswer, cosetAnswer, halfCosetAnswer, circleDomainAnswer, logSizeAnswer, sizeAnswer, initialIndexAnswer, stepSizeAnswer, stepAnswer, indexAtAnswer, atAnswer};
+ghost use Rattle.domains.specs.Canonic.{tryNewAnswer, cosetAnswer, halfCosetAnswer, circleDomainAnswer, logSizeAnswer};
+ghost use Rattle.domains.specs.Canonic.{sizeAnswer, initialIndexAnswer, stepSizeAnswer, stepAnswer, indexAtAnswer};
+ghost use Rattle.domains.specs.Canonic.{atAnswer};
 ghost use Rattle.taripomune.specs.Reply.{u32Reply, u64Reply, pointReply, indexReply};
 ghost use Rattle.taripomune.specs.CosetReply.{canonicOfNumbers, cosetReply, canonicCosetReply, circleDomainReply};
 use crate::coset_reply::CosetReply;
@@ -42,7 +44,8 @@ pub extern "C" fn tari_canonic_coset_coset(
     step_y: u32,
     log_size: u32,
 ) -> CosetReply
-    ensures { λ r. ⌜ r ≡ cosetReply (cosetAnswer (canonicOfNumbers «initial_index» «initial_x» «initial_y» «step_index» «step_x» «step_y» «log_size»)) ⌝ }
+    ensures { λ r. ⌜ r ≡ cosetReply
+        (cosetAnswer (canonicOfNumbers «initial_index» «initial_x» «initial_y» «step_index» «step_x» «step_y» «log_size»)) ⌝ }
 {
     let c = canonic_coset(
         initial_index,
@@ -66,7 +69,8 @@ pub extern "C" fn tari_canonic_coset_half_coset(
     step_y: u32,
     log_size: u32,
 ) -> CosetReply
-    ensures { λ r. ⌜ r ≡ cosetReply (halfCosetAnswer (canonicOfNumbers «initial_index» «initial_x» «initial_y» «step_index» «step_x» «step_y» «log_size»)) ⌝ }
+    ensures { λ r. ⌜ r ≡ cosetReply (halfCosetAnswer
+        (canonicOfNumbers «initial_index» «initial_x» «initial_y» «step_index» «step_x» «step_y» «log_size»)) ⌝ }
 {
     let c = canonic_coset(
         initial_index,
@@ -90,7 +94,8 @@ pub extern "C" fn tari_canonic_coset_circle_domain(
     step_y: u32,
     log_size: u32,
 ) -> CosetReply
-    ensures { λ r. ⌜ r ≡ circleDomainReply (circleDomainAnswer (canonicOfNumbers «initial_index» «initial_x» «initial_y» «step_index» «step_x» «step_y» «log_size»)) ⌝ }
+    ensures { λ r. ⌜ r ≡ circleDomainReply (circleDomainAnswer
+        (canonicOfNumbers «initial_index» «initial_x» «initial_y» «step_index» «step_x» «step_y» «log_size»)) ⌝ }
 {
     let c = canonic_coset(
         initial_index,
@@ -114,7 +119,8 @@ pub extern "C" fn tari_canonic_coset_log_size(
     step_y: u32,
     log_size: u32,
 ) -> U32Reply
-    ensures { λ r. ⌜ r ≡ u32Reply (logSizeAnswer (canonicOfNumbers «initial_index» «initial_x» «initial_y» «step_index» «step_x» «step_y» «log_size»)) ⌝ }
+    ensures { λ r. ⌜ r ≡ u32Reply (logSizeAnswer
+        (canonicOfNumbers «initial_index» «initial_x» «initial_y» «step_index» «step_x» «step_y» «log_size»)) ⌝ }
 {
     let c = canonic_coset(
         initial_index,
@@ -138,7 +144,8 @@ pub extern "C" fn tari_canonic_coset_size(
     step_y: u32,
     log_size: u32,
 ) -> U64Reply
-    ensures { λ r. ⌜ r ≡ u64Reply (sizeAnswer (canonicOfNumbers «initial_index» «initial_x» «initial_y» «step_index» «step_x» «step_y» «log_size»)) ⌝ }
+    ensures { λ r. ⌜ r ≡ u64Reply
+        (sizeAnswer (canonicOfNumbers «initial_index» «initial_x» «initial_y» «step_index» «step_x» «step_y» «log_size»)) ⌝ }
 {
     let c = canonic_coset(
         initial_index,
@@ -162,7 +169,8 @@ pub extern "C" fn tari_canonic_coset_initial_index(
     step_y: u32,
     log_size: u32,
 ) -> IndexReply
-    ensures { λ r. ⌜ r ≡ indexReply (initialIndexAnswer (canonicOfNumbers «initial_index» «initial_x» «initial_y» «step_index» «step_x» «step_y» «log_size»)) ⌝ }
+    ensures { λ r. ⌜ r ≡ indexReply (initialIndexAnswer
+        (canonicOfNumbers «initial_index» «initial_x» «initial_y» «step_index» «step_x» «step_y» «log_size»)) ⌝ }
 {
     let c = canonic_coset(
         initial_index,
@@ -186,7 +194,8 @@ pub extern "C" fn tari_canonic_coset_step_size(
     step_y: u32,
     log_size: u32,
 ) -> IndexReply
-    ensures { λ r. ⌜ r ≡ indexReply (stepSizeAnswer (canonicOfNumbers «initial_index» «initial_x» «initial_y» «step_index» «step_x» «step_y» «log_size»)) ⌝ }
+    ensures { λ r. ⌜ r ≡ indexReply (stepSizeAnswer
+        (canonicOfNumbers «initial_index» «initial_x» «initial_y» «step_index» «step_x» «step_y» «log_size»)) ⌝ }
 {
     let c = canonic_coset(
         initial_index,
@@ -210,7 +219,8 @@ pub extern "C" fn tari_canonic_coset_step(
     step_y: u32,
     log_size: u32,
 ) -> PointReply
-    ensures { λ r. ⌜ r ≡ pointReply (stepAnswer (canonicOfNumbers «initial_index» «initial_x» «initial_y» «step_index» «step_x» «step_y» «log_size»)) ⌝ }
+    ensures { λ r. ⌜ r ≡ pointReply
+        (stepAnswer (canonicOfNumbers «initial_index» «initial_x» «initial_y» «step_index» «step_x» «step_y» «log_size»)) ⌝ }
 {
     let c = canonic_coset(
         initial_index,
@@ -235,7 +245,8 @@ pub extern "C" fn tari_canonic_coset_index_at(
     log_size: u32,
     i: u64,
 ) -> IndexReply
-    ensures { λ r. ⌜ r ≡ indexReply (indexAtAnswer (canonicOfNumbers «initial_index» «initial_x» «initial_y» «step_index» «step_x» «step_y» «log_size») i) ⌝ }
+    ensures { λ r. ⌜ r ≡ indexReply (indexAtAnswer
+        (canonicOfNumbers «initial_index» «initial_x» «initial_y» «step_index» «step_x» «step_y» «log_size») i) ⌝ }
 {
     let c = canonic_coset(
         initial_index,
@@ -260,7 +271,8 @@ pub extern "C" fn tari_canonic_coset_at(
     log_size: u32,
     i: u64,
 ) -> PointReply
-    ensures { λ r. ⌜ r ≡ pointReply (atAnswer (canonicOfNumbers «initial_index» «initial_x» «initial_y» «step_index» «step_x» «step_y» «log_size») i) ⌝ }
+    ensures { λ r. ⌜ r ≡ pointReply
+        (atAnswer (canonicOfNumbers «initial_index» «initial_x» «initial_y» «step_index» «step_x» «step_y» «log_size») i) ⌝ }
 {
     let c = canonic_coset(
         initial_index,

@@ -2,10 +2,12 @@
 ghost use mathlib.Core.Path.{_≡_};
 ghost use lib.ListN.{length};
 ghost use Rattle.circle.specs.Index.{ofIndex};
-ghost use Rattle.domains.specs.Domain.{newAnswer, iterIndicesAnswer, sizeAnswer, logSizeAnswer, atAnswer, indexAtAnswer, isCanonicAnswer, splitAnswer, splitExit, shiftAnswer};
+ghost use Rattle.domains.specs.Domain.{newAnswer, iterIndicesAnswer, sizeAnswer, logSizeAnswer, atAnswer};
+ghost use Rattle.domains.specs.Domain.{indexAtAnswer, isCanonicAnswer, splitAnswer, splitExit, shiftAnswer};
 ghost use Rattle.domains.specs.Iterator.{domainNextAnswer};
 ghost use Rattle.taripomune.specs.Reply.{boolReply, u32Reply, u64Reply, pointReply, indexReply};
-ghost use Rattle.taripomune.specs.CosetReply.{ofNumbers, domainOfNumbers, indexIteratorOfNumbers, circleDomainReply, indexIteratorReply, circleDomainStepReply};
+ghost use Rattle.taripomune.specs.CosetReply.{ofNumbers, domainOfNumbers, indexIteratorOfNumbers};
+ghost use Rattle.taripomune.specs.CosetReply.{circleDomainReply, indexIteratorReply, circleDomainStepReply};
 use crate::coset_reply::CircleDomainIndexIteratorReply;
 use crate::coset_reply::CircleDomainStepReply;
 use crate::coset_reply::CosetReply;
@@ -38,7 +40,8 @@ pub extern "C" fn tari_circle_domain_new(
     step_y: u32,
     log_size: u32,
 ) -> CosetReply
-    ensures { λ r. ⌜ r ≡ circleDomainReply (newAnswer (ofNumbers «initial_index» «initial_x» «initial_y» «step_index» «step_x» «step_y» «log_size»)) ⌝ }
+    ensures { λ r. ⌜ r ≡ circleDomainReply
+        (newAnswer (ofNumbers «initial_index» «initial_x» «initial_y» «step_index» «step_x» «step_y» «log_size»)) ⌝ }
 {
     let half_coset = coset(
         initial_index,
@@ -62,7 +65,8 @@ pub extern "C" fn tari_circle_domain_iter_indices(
     step_y: u32,
     log_size: u32,
 ) -> CircleDomainIndexIteratorReply
-    ensures { λ r. ⌜ r ≡ indexIteratorReply (iterIndicesAnswer (domainOfNumbers «initial_index» «initial_x» «initial_y» «step_index» «step_x» «step_y» «log_size»)) ⌝ }
+    ensures { λ r. ⌜ r ≡ indexIteratorReply (iterIndicesAnswer
+        (domainOfNumbers «initial_index» «initial_x» «initial_y» «step_index» «step_x» «step_y» «log_size»)) ⌝ }
 {
     let d = circle_domain(
         initial_index,
@@ -86,7 +90,8 @@ pub extern "C" fn tari_circle_domain_size(
     step_y: u32,
     log_size: u32,
 ) -> U64Reply
-    ensures { λ r. ⌜ r ≡ u64Reply (sizeAnswer (domainOfNumbers «initial_index» «initial_x» «initial_y» «step_index» «step_x» «step_y» «log_size»)) ⌝ }
+    ensures { λ r. ⌜ r ≡ u64Reply
+        (sizeAnswer (domainOfNumbers «initial_index» «initial_x» «initial_y» «step_index» «step_x» «step_y» «log_size»)) ⌝ }
 {
     let d = circle_domain(
         initial_index,
@@ -110,7 +115,8 @@ pub extern "C" fn tari_circle_domain_log_size(
     step_y: u32,
     log_size: u32,
 ) -> U32Reply
-    ensures { λ r. ⌜ r ≡ u32Reply (logSizeAnswer (domainOfNumbers «initial_index» «initial_x» «initial_y» «step_index» «step_x» «step_y» «log_size»)) ⌝ }
+    ensures { λ r. ⌜ r ≡ u32Reply (logSizeAnswer
+        (domainOfNumbers «initial_index» «initial_x» «initial_y» «step_index» «step_x» «step_y» «log_size»)) ⌝ }
 {
     let d = circle_domain(
         initial_index,
@@ -135,7 +141,8 @@ pub extern "C" fn tari_circle_domain_at(
     log_size: u32,
     i: u64,
 ) -> PointReply
-    ensures { λ r. ⌜ r ≡ pointReply (atAnswer (domainOfNumbers «initial_index» «initial_x» «initial_y» «step_index» «step_x» «step_y» «log_size») i) ⌝ }
+    ensures { λ r. ⌜ r ≡ pointReply
+        (atAnswer (domainOfNumbers «initial_index» «initial_x» «initial_y» «step_index» «step_x» «step_y» «log_size») i) ⌝ }
 {
     let d = circle_domain(
         initial_index,
@@ -160,7 +167,8 @@ pub extern "C" fn tari_circle_domain_index_at(
     log_size: u32,
     i: u64,
 ) -> IndexReply
-    ensures { λ r. ⌜ r ≡ indexReply (indexAtAnswer (domainOfNumbers «initial_index» «initial_x» «initial_y» «step_index» «step_x» «step_y» «log_size») i) ⌝ }
+    ensures { λ r. ⌜ r ≡ indexReply (indexAtAnswer
+        (domainOfNumbers «initial_index» «initial_x» «initial_y» «step_index» «step_x» «step_y» «log_size») i) ⌝ }
 {
     let d = circle_domain(
         initial_index,
@@ -184,7 +192,8 @@ pub extern "C" fn tari_circle_domain_is_canonic(
     step_y: u32,
     log_size: u32,
 ) -> BoolReply
-    ensures { λ r. ⌜ r ≡ boolReply (isCanonicAnswer (domainOfNumbers «initial_index» «initial_x» «initial_y» «step_index» «step_x» «step_y» «log_size»)) ⌝ }
+    ensures { λ r. ⌜ r ≡ boolReply (isCanonicAnswer
+        (domainOfNumbers «initial_index» «initial_x» «initial_y» «step_index» «step_x» «step_y» «log_size»)) ⌝ }
 {
     let d = circle_domain(
         initial_index,
@@ -210,7 +219,14 @@ pub extern "C" fn tari_circle_domain_split(
     log_parts: u32,
     shifts: &mut [u32],
 ) -> CosetReply
-    ensures { λ r. ⌜ (r ≡ circleDomainReply (splitAnswer (domainOfNumbers «initial_index» «initial_x» «initial_y» «step_index» «step_x» «step_y» «log_size») «log_parts» (length (now (shifts .entry))))) × (now (shifts .exit) ≡ splitExit (splitAnswer (domainOfNumbers «initial_index» «initial_x» «initial_y» «step_index» «step_x» «step_y» «log_size») «log_parts» (length (now (shifts .entry)))) (domainOfNumbers «initial_index» «initial_x» «initial_y» «step_index» «step_x» «step_y» «log_size») «log_parts» (now (shifts .entry))) ⌝ }
+    ensures { λ r. ⌜ (r ≡ circleDomainReply (splitAnswer
+        (domainOfNumbers «initial_index» «initial_x» «initial_y» «step_index» «step_x» «step_y» «log_size») «log_parts»
+        (length (now (shifts .entry)))))
+        × (now (shifts .exit) ≡ splitExit (splitAnswer
+        (domainOfNumbers «initial_index» «initial_x» «initial_y» «step_index» «step_x» «step_y» «log_size») «log_parts»
+        (length (now (shifts .entry))))
+        (domainOfNumbers «initial_index» «initial_x» «initial_y» «step_index» «step_x» «step_y» «log_size») «log_parts»
+        (now (shifts .entry))) ⌝ }
 {
     let d = circle_domain(
         initial_index,
@@ -235,7 +251,9 @@ pub extern "C" fn tari_circle_domain_shift(
     log_size: u32,
     shift: u64,
 ) -> CosetReply
-    ensures { λ r. ⌜ r ≡ circleDomainReply (shiftAnswer (domainOfNumbers «initial_index» «initial_x» «initial_y» «step_index» «step_x» «step_y» «log_size») (ofIndex shift)) ⌝ }
+    ensures { λ r. ⌜ r ≡ circleDomainReply (shiftAnswer
+        (domainOfNumbers «initial_index» «initial_x» «initial_y» «step_index» «step_x» «step_y» «log_size»)
+        (ofIndex shift)) ⌝ }
 {
     let d = circle_domain(
         initial_index,
@@ -258,7 +276,8 @@ pub extern "C" fn tari_circle_domain_index_iterator_next(
     second_step: u64,
     second_remaining: u64,
 ) -> CircleDomainStepReply
-    ensures { λ r. ⌜ r ≡ circleDomainStepReply (domainNextAnswer (indexIteratorOfNumbers «first_cur» «first_step» «first_remaining» «second_cur» «second_step» «second_remaining»)) ⌝ }
+    ensures { λ r. ⌜ r ≡ circleDomainStepReply (domainNextAnswer
+        (indexIteratorOfNumbers «first_cur» «first_step» «first_remaining» «second_cur» «second_step» «second_remaining»)) ⌝ }
 {
     let it = index_iterator(
         first_cur,

@@ -2,7 +2,9 @@
 ghost use mathlib.Core.Path.{_≡_};
 ghost use lib.ListN.{length};
 ghost use Rattle.orders.specs.BitReverse.{reverseBits};
-ghost use Rattle.orders.specs.Orders.{bitReverseIndexAnswer, cosetIndexAnswer, offsetAnswer, previousAnswer, logSize, inPlaceAnswer, inPlaceExit, cosetBitReversed, copyAnswer, copyExit, toDomain, toCoset};
+ghost use Rattle.orders.specs.Orders.{bitReverseIndexAnswer, cosetIndexAnswer, offsetAnswer, previousAnswer, logSize};
+ghost use Rattle.orders.specs.Orders.{inPlaceAnswer, inPlaceExit, cosetBitReversed, copyAnswer, copyExit, toDomain};
+ghost use Rattle.orders.specs.Orders.{toCoset};
 ghost use Rattle.taripomune.specs.Reply.{u64Reply, writeReply};
 use crate::reply::U64Reply;
 use crate::reply::WriteReply;
@@ -19,7 +21,9 @@ pub extern "C" fn tari_bit_reverse_index(i: u64, log_size: u32) -> U64Reply
 
 #[no_mangle]
 pub extern "C" fn tari_bit_reverse(v: &mut [u32]) -> WriteReply
-    ensures { λ r. ⌜ (r ≡ writeReply (inPlaceAnswer (length (now (v .entry))))) × (now (v .exit) ≡ inPlaceExit (inPlaceAnswer (length (now (v .entry)))) (reverseBits (logSize (length (now (v .entry))))) (now (v .entry))) ⌝ }
+    ensures { λ r. ⌜ (r ≡ writeReply (inPlaceAnswer (length (now (v .entry)))))
+        × (now (v .exit) ≡ inPlaceExit (inPlaceAnswer (length (now (v .entry)))) (reverseBits (logSize (length (now (v .entry)))))
+        (now (v .entry))) ⌝ }
 {
     write_reply(utils::bit_reverse(v))
 }
@@ -64,7 +68,9 @@ pub extern "C" fn tari_coset_index_to_circle_domain_index(
 
 #[no_mangle]
 pub extern "C" fn tari_bit_reverse_coset_to_circle_domain_order(v: &mut [u32]) -> WriteReply
-    ensures { λ r. ⌜ (r ≡ writeReply (inPlaceAnswer (length (now (v .entry))))) × (now (v .exit) ≡ inPlaceExit (inPlaceAnswer (length (now (v .entry)))) (cosetBitReversed (logSize (length (now (v .entry))))) (now (v .entry))) ⌝ }
+    ensures { λ r. ⌜ (r ≡ writeReply (inPlaceAnswer (length (now (v .entry)))))
+        × (now (v .exit) ≡ inPlaceExit (inPlaceAnswer (length (now (v .entry))))
+        (cosetBitReversed (logSize (length (now (v .entry))))) (now (v .entry))) ⌝ }
 {
     write_reply(utils::bit_reverse_coset_to_circle_domain_order(v))
 }
@@ -74,7 +80,9 @@ pub extern "C" fn tari_coset_order_to_circle_domain_order(
     values: &[u32],
     dst: &mut [u32],
 ) -> WriteReply
-    ensures { λ r. ⌜ (r ≡ writeReply (copyAnswer (length (now (values .entry))) (length (now (dst .entry))))) × (now (dst .exit) ≡ copyExit (copyAnswer (length (now (values .entry))) (length (now (dst .entry)))) (toCoset (length (now (values .entry)))) (now (values .entry)) (now (dst .entry))) ⌝ }
+    ensures { λ r. ⌜ (r ≡ writeReply (copyAnswer (length (now (values .entry))) (length (now (dst .entry)))))
+        × (now (dst .exit) ≡ copyExit (copyAnswer (length (now (values .entry))) (length (now (dst .entry))))
+        (toCoset (length (now (values .entry)))) (now (values .entry)) (now (dst .entry))) ⌝ }
 {
     write_reply(utils::coset_order_to_circle_domain_order(values, dst))
 }
@@ -84,7 +92,9 @@ pub extern "C" fn tari_circle_domain_order_to_coset_order(
     values: &[u32],
     dst: &mut [u32],
 ) -> WriteReply
-    ensures { λ r. ⌜ (r ≡ writeReply (copyAnswer (length (now (values .entry))) (length (now (dst .entry))))) × (now (dst .exit) ≡ copyExit (copyAnswer (length (now (values .entry))) (length (now (dst .entry)))) (toDomain (length (now (values .entry)))) (now (values .entry)) (now (dst .entry))) ⌝ }
+    ensures { λ r. ⌜ (r ≡ writeReply (copyAnswer (length (now (values .entry))) (length (now (dst .entry)))))
+        × (now (dst .exit) ≡ copyExit (copyAnswer (length (now (values .entry))) (length (now (dst .entry))))
+        (toDomain (length (now (values .entry)))) (now (values .entry)) (now (dst .entry))) ⌝ }
 {
     write_reply(utils::circle_domain_order_to_coset_order(values, dst))
 }

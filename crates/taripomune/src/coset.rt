@@ -1,7 +1,9 @@
 // Cosets and the iterator over their indices (domains::coset, domains::iterator).
 ghost use mathlib.Core.Path.{_≡_};
 ghost use Rattle.circle.specs.Index.{ofIndex};
-ghost use Rattle.domains.specs.Coset.{newAnswer, subgroupAnswer, oddsAnswer, halfOddsAnswer, sizeAnswer, logSizeAnswer, iterIndicesAnswer, doubleAnswer, repeatedDoubleAnswer, isDoublingOfAnswer, initialAnswer, indexAtAnswer, atAnswer, shiftAnswer, conjugateAnswer};
+ghost use Rattle.domains.specs.Coset.{newAnswer, subgroupAnswer, oddsAnswer, halfOddsAnswer, sizeAnswer, logSizeAnswer};
+ghost use Rattle.domains.specs.Coset.{iterIndicesAnswer, doubleAnswer, repeatedDoubleAnswer, isDoublingOfAnswer};
+ghost use Rattle.domains.specs.Coset.{initialAnswer, indexAtAnswer, atAnswer, shiftAnswer, conjugateAnswer};
 ghost use Rattle.domains.specs.Iterator.{nextAnswer};
 ghost use Rattle.taripomune.specs.Reply.{boolReply, u32Reply, u64Reply, pointReply, indexReply};
 ghost use Rattle.taripomune.specs.CosetReply.{ofNumbers, iteratorOfNumbers, cosetReply, cosetIteratorReply, cosetStepReply};
@@ -64,7 +66,8 @@ pub extern "C" fn tari_coset_size(
     step_y: u32,
     log_size: u32,
 ) -> U64Reply
-    ensures { λ r. ⌜ r ≡ u64Reply (sizeAnswer (ofNumbers «initial_index» «initial_x» «initial_y» «step_index» «step_x» «step_y» «log_size»)) ⌝ }
+    ensures { λ r. ⌜ r ≡ u64Reply
+        (sizeAnswer (ofNumbers «initial_index» «initial_x» «initial_y» «step_index» «step_x» «step_y» «log_size»)) ⌝ }
 {
     let c = coset(
         initial_index,
@@ -88,7 +91,8 @@ pub extern "C" fn tari_coset_log_size(
     step_y: u32,
     log_size: u32,
 ) -> U32Reply
-    ensures { λ r. ⌜ r ≡ u32Reply (logSizeAnswer (ofNumbers «initial_index» «initial_x» «initial_y» «step_index» «step_x» «step_y» «log_size»)) ⌝ }
+    ensures { λ r. ⌜ r ≡ u32Reply
+        (logSizeAnswer (ofNumbers «initial_index» «initial_x» «initial_y» «step_index» «step_x» «step_y» «log_size»)) ⌝ }
 {
     let c = coset(
         initial_index,
@@ -112,7 +116,8 @@ pub extern "C" fn tari_coset_iter_indices(
     step_y: u32,
     log_size: u32,
 ) -> CosetIteratorReply
-    ensures { λ r. ⌜ r ≡ cosetIteratorReply (iterIndicesAnswer (ofNumbers «initial_index» «initial_x» «initial_y» «step_index» «step_x» «step_y» «log_size»)) ⌝ }
+    ensures { λ r. ⌜ r ≡ cosetIteratorReply
+        (iterIndicesAnswer (ofNumbers «initial_index» «initial_x» «initial_y» «step_index» «step_x» «step_y» «log_size»)) ⌝ }
 {
     let c = coset(
         initial_index,
@@ -136,7 +141,8 @@ pub extern "C" fn tari_coset_double(
     step_y: u32,
     log_size: u32,
 ) -> CosetReply
-    ensures { λ r. ⌜ r ≡ cosetReply (doubleAnswer (ofNumbers «initial_index» «initial_x» «initial_y» «step_index» «step_x» «step_y» «log_size»)) ⌝ }
+    ensures { λ r. ⌜ r ≡ cosetReply
+        (doubleAnswer (ofNumbers «initial_index» «initial_x» «initial_y» «step_index» «step_x» «step_y» «log_size»)) ⌝ }
 {
     let c = coset(
         initial_index,
@@ -161,7 +167,8 @@ pub extern "C" fn tari_coset_repeated_double(
     log_size: u32,
     n_doubles: u32,
 ) -> CosetReply
-    ensures { λ r. ⌜ r ≡ cosetReply (repeatedDoubleAnswer (ofNumbers «initial_index» «initial_x» «initial_y» «step_index» «step_x» «step_y» «log_size») «n_doubles») ⌝ }
+    ensures { λ r. ⌜ r ≡ cosetReply (repeatedDoubleAnswer
+        (ofNumbers «initial_index» «initial_x» «initial_y» «step_index» «step_x» «step_y» «log_size») «n_doubles») ⌝ }
 {
     let c = coset(
         initial_index,
@@ -192,7 +199,10 @@ pub extern "C" fn tari_coset_is_doubling_of(
     other_step_y: u32,
     other_log_size: u32,
 ) -> BoolReply
-    ensures { λ r. ⌜ r ≡ boolReply (isDoublingOfAnswer (ofNumbers «initial_index» «initial_x» «initial_y» «step_index» «step_x» «step_y» «log_size») (ofNumbers «other_initial_index» «other_initial_x» «other_initial_y» «other_step_index» «other_step_x» «other_step_y» «other_log_size»)) ⌝ }
+    ensures { λ r. ⌜ r ≡ boolReply (isDoublingOfAnswer
+        (ofNumbers «initial_index» «initial_x» «initial_y» «step_index» «step_x» «step_y» «log_size») (ofNumbers
+        «other_initial_index» «other_initial_x» «other_initial_y» «other_step_index» «other_step_x» «other_step_y»
+        «other_log_size»)) ⌝ }
 {
     let c = coset(
         initial_index,
@@ -225,7 +235,8 @@ pub extern "C" fn tari_coset_initial(
     step_y: u32,
     log_size: u32,
 ) -> PointReply
-    ensures { λ r. ⌜ r ≡ pointReply (initialAnswer (ofNumbers «initial_index» «initial_x» «initial_y» «step_index» «step_x» «step_y» «log_size»)) ⌝ }
+    ensures { λ r. ⌜ r ≡ pointReply
+        (initialAnswer (ofNumbers «initial_index» «initial_x» «initial_y» «step_index» «step_x» «step_y» «log_size»)) ⌝ }
 {
     let c = coset(
         initial_index,
@@ -250,7 +261,8 @@ pub extern "C" fn tari_coset_index_at(
     log_size: u32,
     i: u64,
 ) -> IndexReply
-    ensures { λ r. ⌜ r ≡ indexReply (indexAtAnswer (ofNumbers «initial_index» «initial_x» «initial_y» «step_index» «step_x» «step_y» «log_size») i) ⌝ }
+    ensures { λ r. ⌜ r ≡ indexReply
+        (indexAtAnswer (ofNumbers «initial_index» «initial_x» «initial_y» «step_index» «step_x» «step_y» «log_size») i) ⌝ }
 {
     let c = coset(
         initial_index,
@@ -275,7 +287,8 @@ pub extern "C" fn tari_coset_at(
     log_size: u32,
     i: u64,
 ) -> PointReply
-    ensures { λ r. ⌜ r ≡ pointReply (atAnswer (ofNumbers «initial_index» «initial_x» «initial_y» «step_index» «step_x» «step_y» «log_size») i) ⌝ }
+    ensures { λ r. ⌜ r ≡ pointReply
+        (atAnswer (ofNumbers «initial_index» «initial_x» «initial_y» «step_index» «step_x» «step_y» «log_size») i) ⌝ }
 {
     let c = coset(
         initial_index,
@@ -300,7 +313,9 @@ pub extern "C" fn tari_coset_shift(
     log_size: u32,
     shift_size: u64,
 ) -> CosetReply
-    ensures { λ r. ⌜ r ≡ cosetReply (shiftAnswer (ofNumbers «initial_index» «initial_x» «initial_y» «step_index» «step_x» «step_y» «log_size») (ofIndex «shift_size»)) ⌝ }
+    ensures { λ r. ⌜ r ≡ cosetReply (shiftAnswer
+        (ofNumbers «initial_index» «initial_x» «initial_y» «step_index» «step_x» «step_y» «log_size»)
+        (ofIndex «shift_size»)) ⌝ }
 {
     let c = coset(
         initial_index,
@@ -324,7 +339,8 @@ pub extern "C" fn tari_coset_conjugate(
     step_y: u32,
     log_size: u32,
 ) -> CosetReply
-    ensures { λ r. ⌜ r ≡ cosetReply (conjugateAnswer (ofNumbers «initial_index» «initial_x» «initial_y» «step_index» «step_x» «step_y» «log_size»)) ⌝ }
+    ensures { λ r. ⌜ r ≡ cosetReply
+        (conjugateAnswer (ofNumbers «initial_index» «initial_x» «initial_y» «step_index» «step_x» «step_y» «log_size»)) ⌝ }
 {
     let c = coset(
         initial_index,

@@ -1,6 +1,8 @@
 // Replies of cosets, domains and their iterators: number and position as in reply.rt, then the values (0 on a refusal).
 ghost use mathlib.Core.Path.{_≡_};
-ghost use Rattle.taripomune.specs.CosetReply.{cosetReply, canonicCosetReply, circleDomainReply, cosetIteratorReply, cosetStepReply, indexIteratorReply, circleDomainStepReply};
+ghost use Rattle.taripomune.specs.CosetReply.{cosetReply, canonicCosetReply, circleDomainReply};
+ghost use Rattle.taripomune.specs.CosetReply.{cosetIteratorReply, cosetStepReply, indexIteratorReply};
+ghost use Rattle.taripomune.specs.CosetReply.{circleDomainStepReply};
 use domains::canonic::CanonicCosetAnswer;
 use domains::coset::CosetAnswer;
 use domains::domain::CircleDomainAnswer;

@@ -1,6 +1,7 @@
 // Point indices (circle::index).
 ghost use mathlib.Core.Path.{_≡_};
-ghost use Rattle.circle.specs.Index.{ofIndex, reduceAnswer, subgroupGenAnswer, toPointAnswer, halfAnswer, addAnswer, subAnswer, negAnswer, mulAnswer};
+ghost use Rattle.circle.specs.Index.{ofIndex, reduceAnswer, subgroupGenAnswer, toPointAnswer, halfAnswer, addAnswer};
+ghost use Rattle.circle.specs.Index.{subAnswer, negAnswer, mulAnswer};
 ghost use Rattle.circle.specs.declared.index.CirclePointIndexAnswer.the-variants.{Value};
 ghost use Rattle.taripomune.specs.Reply.{pointReply, indexReply};
 use crate::reply::IndexReply;

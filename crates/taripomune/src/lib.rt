@@ -14,3 +14,4 @@ pub mod qm31;
 pub mod records;
 pub mod reply;
 pub mod secure_point;
+pub mod version;

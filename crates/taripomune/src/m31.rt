@@ -2,7 +2,9 @@
 ghost use mathlib.Core.Path.{_≡_};
 ghost use Prim.Native.Nat.{_+_, _*_, _%_, _^_};
 ghost use Rattle.algebra.specs.M31.{P};
-ghost use Rattle.fields.specs.M31.{ofWord, residueOf, partialReduceAnswer, reduceAnswer, fromWordAnswer, isZeroAnswer, addAnswer, subAnswer, negAnswer, mulAnswer, squareAnswer, powAnswer, sqnAnswer, inverseAnswer, divAnswer, conjugateAnswer};
+ghost use Rattle.fields.specs.M31.{ofWord, residueOf, partialReduceAnswer, reduceAnswer, fromWordAnswer, isZeroAnswer};
+ghost use Rattle.fields.specs.M31.{addAnswer, subAnswer, negAnswer, mulAnswer, squareAnswer, powAnswer, sqnAnswer};
+ghost use Rattle.fields.specs.M31.{inverseAnswer, divAnswer, conjugateAnswer};
 ghost use Rattle.fields.specs.declared.m31.M31Answer.the-variants.{Value};
 ghost use Rattle.taripomune.specs.Reply.{m31Reply, boolReply};
 use crate::reply::BoolReply;

@@ -6,7 +6,11 @@ ghost use Rattle.algebra.specs.M31.{P};
 ghost use Rattle.fields.specs.Words.{quarticWords};
 ghost use Rattle.fields.specs.M31.{ofWord, residueOf};
 ghost use Rattle.fields.specs.CM31.{ofPair};
-ghost use Rattle.fields.specs.QM31.{ofPairs, ofBase, fromPairsAnswer, fromArrayAnswer, toArrayAnswer, fromBaseAnswer, fromNumberAnswer, isZeroAnswer, addAnswer, subAnswer, negAnswer, mulAnswer, mulComplexAnswer, squareAnswer, powAnswer, inverseAnswer, divAnswer, conjugateAnswer, narrowAnswer, partialEvalsAnswer, addBaseAnswer, subBaseAnswer, mulBaseAnswer, divBaseAnswer, baseSubAnswer, baseDivAnswer};
+ghost use Rattle.fields.specs.QM31.{ofPairs, ofBase, fromPairsAnswer, fromArrayAnswer, toArrayAnswer, fromBaseAnswer};
+ghost use Rattle.fields.specs.QM31.{fromNumberAnswer, isZeroAnswer, addAnswer, subAnswer, negAnswer, mulAnswer};
+ghost use Rattle.fields.specs.QM31.{mulComplexAnswer, squareAnswer, powAnswer, inverseAnswer, divAnswer};
+ghost use Rattle.fields.specs.QM31.{conjugateAnswer, narrowAnswer, partialEvalsAnswer, addBaseAnswer, subBaseAnswer};
+ghost use Rattle.fields.specs.QM31.{mulBaseAnswer, divBaseAnswer, baseSubAnswer, baseDivAnswer};
 ghost use Rattle.fields.specs.declared.qm31.QM31Answer.the-variants.{Value};
 ghost use Rattle.taripomune.specs.Reply.{m31Reply, boolReply, qm31Reply, arrayReply};
 use crate::reply::BoolReply;
@@ -118,7 +122,8 @@ pub extern "C" fn tari_qm31_from_partial_evals(
     d2: u32,
     d3: u32,
 ) -> QM31Reply
-    ensures { λ r. ⌜ r ≡ qm31Reply (partialEvalsAnswer (ofPairs ((a0, a1), (a2, a3)) ∷ ofPairs ((b0, b1), (b2, b3)) ∷ ofPairs ((c0, c1), (c2, c3)) ∷ ofPairs ((d0, d1), (d2, d3)) ∷ [])) ⌝ }
+    ensures { λ r. ⌜ r ≡ qm31Reply (partialEvalsAnswer (ofPairs ((a0, a1), (a2, a3)) ∷ ofPairs ((b0, b1), (b2, b3)) ∷ ofPairs
+        ((c0, c1), (c2, c3)) ∷ ofPairs ((d0, d1), (d2, d3)) ∷ [])) ⌝ }
 {
     qm31_reply(QM31::from_partial_evals([
         QM31(CM31(M31(a0), M31(a1)), CM31(M31(a2), M31(a3))),

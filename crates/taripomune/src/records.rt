@@ -1,6 +1,7 @@
 // The records of the numbers that a call takes: a coset as seven, an iterator as three or six.
 ghost use mathlib.Core.Path.{_≡_};
-ghost use Rattle.taripomune.specs.CosetReply.{ofNumbers, canonicOfNumbers, domainOfNumbers, iteratorOfNumbers, indexIteratorOfNumbers};
+ghost use Rattle.taripomune.specs.CosetReply.{ofNumbers, canonicOfNumbers, domainOfNumbers, iteratorOfNumbers};
+ghost use Rattle.taripomune.specs.CosetReply.{indexIteratorOfNumbers};
 use circle::index::CirclePointIndex;
 use circle::point::CirclePoint;
 use domains::canonic::CanonicCoset;

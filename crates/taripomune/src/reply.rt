@@ -1,6 +1,7 @@
 // Replies: document 01's number (0: accepted) and position, then the values (0 on a refusal).
 ghost use mathlib.Core.Path.{_≡_};
-ghost use Rattle.taripomune.specs.Reply.{m31Reply, boolReply, u32Reply, u64Reply, cm31Reply, qm31Reply, arrayReply, pointReply, securePointReply, indexReply, writeReply};
+ghost use Rattle.taripomune.specs.Reply.{m31Reply, boolReply, u32Reply, u64Reply, cm31Reply, qm31Reply};
+ghost use Rattle.taripomune.specs.Reply.{arrayReply, pointReply, securePointReply, indexReply, writeReply};
 use circle::index::CirclePointIndexAnswer;
 use circle::point::CirclePointAnswer;
 use circle::secure_point::SecureCirclePointAnswer;

@@ -4,7 +4,9 @@ ghost use Prim.Native.Nat.{_+_, _*_, _^_};
 ghost use Rattle.algebra.specs.Circle.{zeroPoint};
 ghost use Rattle.fields.specs.Words.{quarticWords};
 ghost use Rattle.fields.specs.QM31.{ofPairs};
-ghost use Rattle.circle.specs.SecurePoint.{ofPoint, addAnswer, subAnswer, doubleAnswer, doubleXAnswer, mulAnswer, mulSignedAnswer, repeatedDoubleAnswer, conjugateAnswer, antipodeAnswer, complexConjugateAnswer, getPointAnswer};
+ghost use Rattle.circle.specs.SecurePoint.{ofPoint, addAnswer, subAnswer, doubleAnswer, doubleXAnswer, mulAnswer};
+ghost use Rattle.circle.specs.SecurePoint.{mulSignedAnswer, repeatedDoubleAnswer, conjugateAnswer, antipodeAnswer};
+ghost use Rattle.circle.specs.SecurePoint.{complexConjugateAnswer, getPointAnswer};
 ghost use Rattle.circle.specs.declared.secure_point.SecureCirclePointAnswer.the-variants.{Value};
 ghost use Rattle.taripomune.specs.Reply.{qm31Reply, securePointReply};
 use crate::reply::QM31Reply;
@@ -43,7 +45,8 @@ pub extern "C" fn tari_secure_point_add(
     by2: u32,
     by3: u32,
 ) -> SecurePointReply
-    ensures { λ r. ⌜ r ≡ securePointReply (addAnswer (ofPoint (((ax0, ax1), (ax2, ax3)), ((ay0, ay1), (ay2, ay3)))) (ofPoint (((bx0, bx1), (bx2, bx3)), ((by0, by1), (by2, by3))))) ⌝ }
+    ensures { λ r. ⌜ r ≡ securePointReply (addAnswer (ofPoint (((ax0, ax1), (ax2, ax3)), ((ay0, ay1), (ay2, ay3))))
+        (ofPoint (((bx0, bx1), (bx2, bx3)), ((by0, by1), (by2, by3))))) ⌝ }
 {
     let a = SecureCirclePoint {
         x: QM31(CM31(M31(ax0), M31(ax1)), CM31(M31(ax2), M31(ax3))),
@@ -75,7 +78,8 @@ pub extern "C" fn tari_secure_point_sub(
     by2: u32,
     by3: u32,
 ) -> SecurePointReply
-    ensures { λ r. ⌜ r ≡ securePointReply (subAnswer (ofPoint (((ax0, ax1), (ax2, ax3)), ((ay0, ay1), (ay2, ay3)))) (ofPoint (((bx0, bx1), (bx2, bx3)), ((by0, by1), (by2, by3))))) ⌝ }
+    ensures { λ r. ⌜ r ≡ securePointReply (subAnswer (ofPoint (((ax0, ax1), (ax2, ax3)), ((ay0, ay1), (ay2, ay3))))
+        (ofPoint (((bx0, bx1), (bx2, bx3)), ((by0, by1), (by2, by3))))) ⌝ }
 {
     let a = SecureCirclePoint {
         x: QM31(CM31(M31(ax0), M31(ax1)), CM31(M31(ax2), M31(ax3))),

@@ -97,11 +97,11 @@ half-turn = ap (λ (p : ℕ × ℕ). P.Value (ofPoint p)) (index-antipode 0 ∙ 
 
 -- `is_doubling_of`: `subgroup(0)` against `subgroup(1)` is false
 pub subgroup-zero : subgroupAnswer 0 ≡ K.Value (cosetOf 0 0)
-unfolding subgroupAnswer newAnswer
+unfolding subgroupAnswer
 subgroup-zero = refl
 
 pub subgroup-one : subgroupAnswer 1 ≡ K.Value (cosetOf 0 1)
-unfolding subgroupAnswer newAnswer
+unfolding subgroupAnswer
 subgroup-one = refl
 
 steps-differ : isDoublingOf (cosetOf 0 0) (cosetOf 0 1) ≡ false
@@ -189,7 +189,7 @@ coset-bits-of-eight = refl
 
 -- previous of 0 with domain 2, eval 3 is 6
 pub previous-of-zero : previousAnswer 0 2 3 ≡ U.Value 6
-unfolding previousAnswer offsetAnswer offsetElement reverseBits
+unfolding previousAnswer offsetElement reverseBits
 previous-of-zero = refl
 
 -- ---- extensions

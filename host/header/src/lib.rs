@@ -1,12 +1,19 @@
-//! Reads `include/taripomune.h`, the one list of the library's functions, for the build scripts that need declarations
-//! or calls in Rust.
+//! Reads `include/taripomune.h`, the one list of the library's functions, for the programs that need its declarations.
 
 #![forbid(unsafe_code)]
 
 /// What the header declares.
 pub struct Header {
+    pub constants: Vec<Constant>,
     pub replies: Vec<Reply>,
+    pub sections: Vec<Section>,
     pub prototypes: Vec<Prototype>,
+}
+
+/// A name for a number.
+pub struct Constant {
+    pub name: String,
+    pub value: u32,
 }
 
 /// A struct that a function answers with.
@@ -16,10 +23,22 @@ pub struct Reply {
     pub fields: Vec<Variable>,
 }
 
+/// A heading, `/* ---- TITLE ----` and a text, over the declarations up to the next one.
+pub struct Section {
+    pub title: String,
+    pub text: String,
+}
+
 pub struct Prototype {
     pub name: String,
     pub reply: String,
     pub parameters: Vec<Variable>,
+    /// As the header has it.
+    pub declaration: String,
+    /// The comment above it.
+    pub comment: String,
+    /// The title of the section that it stands in.
+    pub section: String,
 }
 
 /// A field of a reply or a parameter of a function.
@@ -35,25 +54,66 @@ pub enum Pointer {
 }
 
 impl Header {
-    /// The replies and prototypes of the header, one a line; at a line of another kind it panics, which stops a build.
+    /// What the header declares. At a declaration of another kind it panics, which stops a build.
     pub fn read(text: &str) -> Header {
-        let mut header = Header { replies: Vec::new(), prototypes: Vec::new() };
-        let text = without_comments(text);
-        for line in text.lines().map(str::trim).filter(|line| !line.is_empty() && !line.starts_with('#')) {
-            if let Some(rest) = line.strip_prefix("typedef struct {") {
-                header.replies.push(read_reply(rest).unwrap_or_else(|| panic!("unknown kind of reply: {line}")));
+        let mut header = Header { constants: vec![], replies: vec![], sections: vec![], prototypes: vec![] };
+        let mut comment = String::new();
+        let mut rest = text.trim_start();
+        while !rest.is_empty() {
+            if let Some(inside) = rest.strip_prefix("/*") {
+                let (text, after) = inside.split_once("*/").expect("a comment ends");
+                comment = plain(text);
+                if let Some((title, text)) = comment.strip_prefix("---- ").and_then(|c| c.split_once(" ----")) {
+                    header.sections.push(Section { title: title.to_string(), text: text.trim().to_string() });
+                }
+                rest = after;
+            } else if rest.starts_with('#') {
+                rest = header.read_directive(rest);
             } else {
-                let prototype = read_prototype(line).unwrap_or_else(|| panic!("unknown kind of prototype: {line}"));
-                header.prototypes.push(prototype);
+                let end = end_of_declaration(rest).unwrap_or_else(|| panic!("a declaration doesn't end: {rest}"));
+                header.read_declaration(&rest[..end], std::mem::take(&mut comment));
+                rest = &rest[end..];
             }
+            rest = rest.trim_start();
         }
         header
+    }
+
+    /// Takes a line for the preprocessor, or all that is for C++ alone, and gives what follows.
+    fn read_directive<'a>(&mut self, text: &'a str) -> &'a str {
+        if text.starts_with("#ifdef __cplusplus") {
+            return text.split_once("#endif").expect("what is for C++ alone ends").1;
+        }
+        let (line, after) = text.split_once('\n').unwrap_or((text, ""));
+        if let ["#define", name, value] = line.split_whitespace().collect::<Vec<_>>()[..] {
+            let value = value.parse().unwrap_or_else(|_| panic!("{name} isn't a number"));
+            self.constants.push(Constant { name: name.to_string(), value });
+        }
+        after
+    }
+
+    fn read_declaration(&mut self, declaration: &str, comment: String) {
+        let line = declaration.split_whitespace().collect::<Vec<_>>().join(" ");
+        if let Some(rest) = line.strip_prefix("typedef struct {") {
+            self.replies.push(read_reply(rest).unwrap_or_else(|| panic!("unknown kind of reply: {line}")));
+        } else {
+            let (name, reply, parameters) =
+                read_prototype(&line).unwrap_or_else(|| panic!("unknown kind of prototype: {line}"));
+            let section = self.sections.last().map_or(String::new(), |section| section.title.clone());
+            let declaration = declaration.to_string();
+            self.prototypes.push(Prototype { name, reply, parameters, declaration, comment, section });
+        }
     }
 
     /// The reply of a function of this header.
     pub fn reply_of(&self, prototype: &Prototype) -> &Reply {
         let reply = self.replies.iter().find(|reply| reply.name == prototype.reply);
         reply.unwrap_or_else(|| panic!("{} has an unknown reply", prototype.name))
+    }
+
+    /// The number that a name stands for.
+    pub fn constant(&self, name: &str) -> Option<u32> {
+        self.constants.iter().find(|constant| constant.name == name).map(|constant| constant.value)
     }
 }
 
@@ -62,15 +122,39 @@ impl Prototype {
     pub fn has_slices(&self) -> bool {
         self.parameters.iter().any(|parameter| parameter.pointer.is_some())
     }
+
+    /// The first part of its comment, which says what it answers or does.
+    pub fn meaning(&self) -> &str {
+        self.comment.rsplit_once(". ").map_or("", |(meaning, _)| meaning)
+    }
+
+    /// The numbers of its refusals in the order of checking, which the last sentence of its comment names.
+    pub fn refusals(&self) -> Option<Vec<u32>> {
+        match self.comment.rsplit_once(". ")?.1.strip_suffix('.')? {
+            "Never refuses" => Some(vec![]),
+            last => last.strip_prefix("Refuses ")?.split(", ").map(|number| number.parse().ok()).collect(),
+        }
+    }
 }
 
-fn without_comments(text: &str) -> String {
-    let mut parts = text.split("/*");
-    let mut kept = parts.next().unwrap().to_string();
-    for part in parts {
-        kept += part.split_once("*/").expect("a comment ends").1;
+/// The text of a comment on one line, without the stars that begin its lines.
+fn plain(comment: &str) -> String {
+    let lines = comment.lines().map(|line| line.trim().trim_start_matches('*').trim());
+    lines.filter(|line| !line.is_empty()).collect::<Vec<_>>().join(" ")
+}
+
+/// Where a declaration ends: after the first semicolon outside braces.
+fn end_of_declaration(text: &str) -> Option<usize> {
+    let mut depth = 0;
+    for (at, c) in text.char_indices() {
+        match c {
+            '{' => depth += 1,
+            '}' => depth -= 1,
+            ';' if depth == 0 => return Some(at + 1),
+            _ => {}
+        }
     }
-    kept
+    None
 }
 
 fn read_reply(rest: &str) -> Option<Reply> {
@@ -82,7 +166,8 @@ fn read_reply(rest: &str) -> Option<Reply> {
     Some(Reply { name: name.trim().strip_suffix(';')?.to_string(), fields })
 }
 
-fn read_prototype(line: &str) -> Option<Prototype> {
+/// Its name, its reply and its parameters.
+fn read_prototype(line: &str) -> Option<(String, String, Vec<Variable>)> {
     let (reply, rest) = line.split_once(' ')?;
     let (name, parameters) = rest.strip_suffix(");")?.split_once('(')?;
     let parameters = match parameters {
@@ -90,7 +175,7 @@ fn read_prototype(line: &str) -> Option<Prototype> {
         list => list.split(',').map(read_variable).collect::<Option<_>>()?,
     };
     name.starts_with("tari_").then_some(())?;
-    Some(Prototype { name: name.to_string(), reply: reply.to_string(), parameters })
+    Some((name.to_string(), reply.to_string(), parameters))
 }
 
 fn read_variable(text: &str) -> Option<Variable> {

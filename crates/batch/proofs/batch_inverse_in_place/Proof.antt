@@ -1,6 +1,6 @@
 use mathlib.Core.Path.{sym, _∙_}
 use borrow.Author.Needs.{needs}
-use Rattle.batch.proofs.Batches.{same-exit, refused-exit}
+use Rattle.batch.proofs.Batches.{chunked-by-one, same-exit, refused-exit}
 use Rattle.batch.proofs.Parts.{one-part}
 use Rattle.batch.proofs.batch_inverse_in_place.Statement.{statement}
 use Rattle.batch.proofs.batch_inverse_in_place.Tie as tie
@@ -15,7 +15,9 @@ enum-told-2 : tie.Need-enum-told-2
 enum-told-2 c = search needs
 
 returns : tie.Need-returns
-returns c = (c .before .before .check .ensures, refused-exit _ _ (sym (c .enum-told2 .given .1) ∙ c .before .before .check .ensures))
+returns c =
+    let answered = c .before .before .check .ensures ∙ chunked-by-one _ _ _ in
+    (answered, refused-exit _ _ (sym (c .enum-told2 .given .1) ∙ answered))
 
 invert-parts-requires : tie.Need-invert-parts-requires
 invert-parts-requires c κs =
@@ -29,7 +31,7 @@ returns-2 : tie.Need-returns-2
 returns-2 c =
     let entry = c .before .before .before .before .before .before .before .before .before in
     let told = c .before .before .before .before in
-    let yes = sym (told .enum-told .given .1) ∙ told .before .before .check .ensures in
+    let yes = sym (told .enum-told .given .1) ∙ told .before .before .check .ensures ∙ chunked-by-one _ _ _ in
     (yes, same-exit (entry .args .field) yes (c .before .before .invert-parts .ensures))
 
 pub batch-inverse-in-place-spec : {M : Type 1} → statement M

@@ -12,7 +12,7 @@ new-requires : tie.Need-new-requires
 new-requires c κs = search needs
 
 returns : tie.Need-returns
-unfolding subgroupAnswer
+unfolding newAnswer subgroupAnswer
 returns c = c .new .ensures ∙ ap (λ (k : CirclePointIndex). newAnswer k (c .before .before .args .log-size)) (c .before .zero .ensures)
 
 pub subgroup-spec : {M : Type 1} → statement M
