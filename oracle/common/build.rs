@@ -20,6 +20,7 @@ fn functions(header: &Header) -> String {
 /// Both closures read the arguments from left to right; a slice is its length and then its words.
 fn function(prototype: &Prototype, header: &Header) -> String {
     let Prototype { name, parameters, .. } = prototype;
+    let declared: String = parameters.iter().filter_map(|parameter| declared(parameter, parameters)).collect();
     let taken: String = parameters.iter().map(|parameter| taken(parameter, parameters)).collect();
     let exits: String = parameters.iter().map(exit).collect();
     let fields = &header.reply_of(prototype).fields[2..];
@@ -27,7 +28,7 @@ fn function(prototype: &Prototype, header: &Header) -> String {
     format!(
         "Function {{
             name: \"{name}\",
-            slices: {slices},
+            parameters: &[{declared}],
             call: |args| {{
                 {taken}
                 let reply = {call};
@@ -41,7 +42,6 @@ fn function(prototype: &Prototype, header: &Header) -> String {
             }},
         }},\n",
         name = name.strip_prefix("tari_").unwrap(),
-        slices = prototype.has_slices(),
         call = call(prototype),
         values = values.join(", "),
         zeros = fields.len(),
@@ -59,10 +59,25 @@ fn call(prototype: &Prototype) -> String {
     }
 }
 
+/// The slice whose length a parameter is.
+fn slice_of<'a>(Variable { name, .. }: &'a Variable, parameters: &[Variable]) -> Option<&'a str> {
+    name.strip_suffix("_len").filter(|slice| parameters.iter().any(|parameter| parameter.name == *slice))
+}
+
+/// A `Parameter`, unless it is the length of a slice.
+fn declared(parameter: &Variable, parameters: &[Variable]) -> Option<String> {
+    let Variable { name, rust_type, pointer } = parameter;
+    let range = match pointer {
+        Some(_) => "None".to_string(),
+        None => format!("Some(({rust_type}::MIN as i128, {rust_type}::MAX as i128))"),
+    };
+    slice_of(parameter, parameters).is_none().then(|| format!("Parameter {{ name: \"{name}\", range: {range} }}, "))
+}
+
 /// Takes a parameter into a variable, whose `arg_` keeps it apart from the other names.
-fn taken(Variable { name, rust_type, pointer }: &Variable, parameters: &[Variable]) -> String {
-    let slice = name.strip_suffix("_len").filter(|slice| parameters.iter().any(|p| p.name == *slice));
-    let value = match (pointer, slice) {
+fn taken(parameter: &Variable, parameters: &[Variable]) -> String {
+    let Variable { name, rust_type, pointer } = parameter;
+    let value = match (pointer, slice_of(parameter, parameters)) {
         (Some(_), _) => "Lent::new(args.slice())".to_string(),
         (None, Some(slice)) => format!("arg_{slice}.len() as {rust_type}"),
         (None, None) => "args.take()".to_string(),

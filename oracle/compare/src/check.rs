@@ -106,7 +106,7 @@ fn rust(entry: &Entry, numbers: &[i128]) -> Vec<u64> {
 }
 
 /// Calls with the numbers and sees that all were taken.
-fn with_all<T>(numbers: &[i128], call: fn(&mut Args) -> T) -> T {
+pub fn with_all<T>(numbers: &[i128], call: fn(&mut Args) -> T) -> T {
     let mut args = Args(numbers.iter());
     let answer = call(&mut args);
     assert!(args.0.next().is_none(), "the entry's kinds give more numbers than are taken");

@@ -104,7 +104,7 @@ pub const SIGNED_SCALAR: Kind = Kind {
 };
 
 /// The order of the circle over QM31.
-const SECURE_ORDER: u128 = P_2 * P_2 - 1;
+pub const SECURE_ORDER: u128 = P_2 * P_2 - 1;
 
 /// What `get_point` takes: 128 bits as two words.
 pub const SECURE_INDEX: Kind = Kind {

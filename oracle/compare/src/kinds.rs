@@ -19,7 +19,7 @@ pub struct Refusal {
 }
 
 /// Document 01's numbers in the order of its table, which is the order of checking.
-const ROWS: [u32; 12] = [6, 4, 11, 8, 9, 1, 2, 3, 5, 7, 10, 12];
+pub const ROWS: [u32; 12] = [6, 4, 11, 8, 9, 1, 2, 3, 5, 7, 10, 12];
 
 /// The refusal in the first of the rows; within a row the leftmost argument's.
 pub fn first_refusal(takes: &[Kind], input: &[Vec<i128>]) -> Option<Refusal> {
