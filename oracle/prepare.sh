@@ -1,6 +1,6 @@
-# Read by `run`, `run-speed` and `run-largest`, with the name of a cargo profile: finds stwo's sources, lets `host/sys`
-# make the library where that is missing or old, and sees that the header declares just what it exports. Leaves
-# `cargo_run`, the words of a cargo command that the scripts have in common.
+# Read by the scripts `run..` with the name of a cargo profile: finds stwo's sources, lets `host/sys` make the library
+# where that is missing or old, and sees that the header declares just what it exports. Leaves `root`, the repository,
+# `options`, the words that the scripts' cargo commands have in common, and with these `cargo_run`.
 root=$(dirname "$oracle")
 library=$root/target/staticlib/libtaripomune.a
 
