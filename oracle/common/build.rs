@@ -1,4 +1,4 @@
-//! Reads the C header and writes what `src/library.rs` includes: one `Function` a prototype.
+//! Reads the C header and writes what `src/library.rs` includes: one `Function` a prototype, and the version.
 
 use std::env;
 use std::fs;
@@ -14,7 +14,8 @@ fn main() {
 
 fn functions(header: &Header) -> String {
     let functions: String = header.prototypes.iter().map(|prototype| function(prototype, header)).collect();
-    format!("pub const FUNCTIONS: &[Function] = &[\n{functions}];\n")
+    let version = header.constant("TARI_VERSION").expect("the header has a version");
+    format!("pub const VERSION: u32 = {version};\n\npub const FUNCTIONS: &[Function] = &[\n{functions}];\n")
 }
 
 /// Both closures read the arguments from left to right; a slice is its length and then its words.

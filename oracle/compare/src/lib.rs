@@ -25,6 +25,7 @@ pub mod record;
 mod secure_point;
 mod transform;
 mod transform_kinds;
+mod version;
 pub mod walk;
 
 use common::library::{Function, FUNCTIONS};
@@ -33,6 +34,7 @@ use entry::Entry;
 /// The entries, by the file that each module's answers are recorded in, and about how many bytes of each function's
 /// answers are recorded at most.
 pub const MODULES: &[(&str, &[Entry], usize)] = &[
+    ("version", version::ENTRIES, 100),
     ("m31", m31::ENTRIES, 3_000),
     ("cm31", cm31::ENTRIES, 3_000),
     ("qm31", qm31::ENTRIES, 1_900),

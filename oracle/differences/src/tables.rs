@@ -9,7 +9,8 @@ use compare::kinds::Refusal;
 use compare::{check_names, MODULES};
 
 /// The headings of the modules.
-const HEADINGS: [(&str, &str); 12] = [
+const HEADINGS: [(&str, &str); 13] = [
+    ("version", "The version"),
     ("m31", "M31"),
     ("cm31", "CM31"),
     ("qm31", "QM31"),
@@ -41,7 +42,10 @@ fn section(module: &str, entries: &'static [Entry], builds: &Builds) -> Result<S
     let calls = entries.iter().map(Call::new).collect::<Result<Vec<_>, _>>()?;
     let smallest: String = calls.iter().map(|call| smallest_rows(call, builds)).collect::<Result<_, _>>()?;
     let further: String = calls.iter().map(|call| further_rows(call, builds)).collect::<Result<_, _>>()?;
-    let mut text = format!("### {heading}\n\n{SMALLEST_HEAD}{smallest}\n");
+    let mut text = format!("### {heading}\n\n");
+    if !smallest.is_empty() {
+        text += &format!("{SMALLEST_HEAD}{smallest}\n");
+    }
     if !further.is_empty() {
         text += &format!("{FURTHER_HEAD}{further}\n");
     }
