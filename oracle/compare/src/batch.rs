@@ -38,7 +38,7 @@ fn rust_chunked<T: Element>(a: &mut Args) -> Vec<u64> {
     values(&dst)
 }
 
-/// Whether the Rust's pass of four lanes meets a longer destination, where it panics (document 01, Batch inversion).
+/// Whether the Rust's pass of four lanes meets a longer destination, where it panics.
 fn panics<T>(column: &[T], dst: &[T]) -> bool {
     column.len() > 4 && column.len() % 4 == 0 && dst.len() > column.len()
 }

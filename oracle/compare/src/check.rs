@@ -75,7 +75,7 @@ fn start<T: Debug>(list: &[T]) -> String {
     }
 }
 
-/// The library's answer, and document 01's refusal or else the Rust's answer.
+/// The library's answer, and the refusal of the table or else the Rust's answer.
 pub fn answers(entry: &Entry, function: &Function, input: &Input) -> Pair {
     let numbers = input.concat();
     let expected = match first_refusal(entry.takes, input) {

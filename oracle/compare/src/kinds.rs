@@ -1,4 +1,4 @@
-//! Kinds of argument. A kind knows the limits of its range, draws good and damaged numbers, and knows document 01's
+//! Kinds of argument. A kind knows the limits of its range, draws good and damaged numbers, and knows the
 //! refusal of them. A kind may be several numbers: a condition on two arguments together is a kind of both.
 
 use common::random::Random;
@@ -18,7 +18,7 @@ pub struct Refusal {
     pub position: u64,
 }
 
-/// Document 01's numbers in the order of its table, which is the order of checking.
+/// The numbers of refusals in the order of the table in docs/CALLS.md, which is the order of checking.
 pub const ROWS: [u32; 12] = [6, 4, 11, 8, 9, 1, 2, 3, 5, 7, 10, 12];
 
 /// The refusal in the first of the rows; within a row the leftmost argument's.

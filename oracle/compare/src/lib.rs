@@ -1,4 +1,5 @@
-//! The functions of the library's C interface, each with the inputs that it refuses and the Rust that it is compared with.
+//! The functions of the library's C interface, each with the inputs that it refuses and the Rust that it is compared
+//! with.
 
 mod batch;
 mod canonic_coset;

@@ -1,4 +1,5 @@
-//! Columns too long for document 01's sum, beside the fast Rust of `circle_fft.rs`, and back again by the library.
+//! Columns too long for the sum that defines their values, beside the fast Rust of `circle_fft.rs`, and back again by
+//! the library.
 
 use crate::check::Tally;
 use crate::circle_fft::Factors;

@@ -1,5 +1,5 @@
 //! The transform between the values of a column and its coefficients. The Rust has no function of it: what is expected
-//! is document 01's sum over the Rust's points.
+//! is the sum that defines it, over the Rust's points.
 
 use crate::circle_fft::Factors;
 use crate::entry::{entry, Entry};

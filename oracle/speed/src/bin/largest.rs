@@ -12,7 +12,7 @@ use stwo::core::utils::bit_reverse_index;
 
 const LOG_SIZE: u32 = 30;
 
-/// So many positions, the first and the last among them, are compared with document 01's sum.
+/// So many positions, the first and the last among them, are compared with the sum that defines the value.
 const POSITIONS: usize = 20;
 
 /// The coefficients are summed in chunks of 2^10, where the low bits of their numbers go with the same products.
@@ -64,7 +64,7 @@ fn call(name: &str, transform: Transform, column: &mut [u32], scratch: &mut [u32
     reply.number == 0
 }
 
-/// Document 01's sum at a position of the value column.
+/// The sum that defines the value at a position of the column.
 fn sum(coefficients: &[u32], position: usize) -> M31 {
     let factors = factors(CanonicCoset::new(LOG_SIZE).circle_domain().at(bit_reverse_index(position, LOG_SIZE)));
     let (low, high) = (products(&factors[..LOW_BITS]), products(&factors[LOW_BITS..]));
