@@ -78,10 +78,10 @@ module _ (O : Ops) (L : Laws O) where
   double-and-add a p n =
       plus-assoc a (multiple O (n % 2) p) (multiple O (n / 2) (plus O p p))
       ∙ ap (plus O a) (ap (λ t. plus O (multiple O (n % 2) p) (multiple O (n / 2) t)) (sym (multiple-two p))
-      ∙ ap (plus O (multiple O (n % 2) p)) (sym (multiple-mul (n / 2) 2 p)) ∙ sym (multiple-add (n % 2) (n / 2 * 2) p) ∙ ap (λ t. multiple O t p) whole)
+      ∙ ap (plus O (multiple O (n % 2) p)) (sym (multiple-mul (n / 2) 2 p)) ∙ sym (multiple-add (n % 2) (n / 2 * 2) p) ∙ ap (λ t. multiple O t p) div-mod-2)
     where
-      whole : n % 2 + n / 2 * 2 ≡ n
-      whole = omega arith
+      div-mod-2 : n % 2 + n / 2 * 2 ≡ n
+      div-mod-2 = omega arith
 
   pub multiple-zeroPoint : (m : ℕ) → multiple O m (zeroPoint O) ≡ zeroPoint O
   multiple-zeroPoint m = multiple-pow m (zeroPoint O) ∙ one-pow (complex O) (complex-laws O L) m
@@ -108,15 +108,15 @@ module _ (O : Ops) (L : Laws O) where
   on-conjugate p h = solve O L (p .0 ∷ p .1 ∷ []) (squares exprs (conjugate exprs (v0, v1))) (squares exprs (v0, v1)) tt ∙ h
 
   pub plus-conjugate : (p : O .El × O .El) → OnCircle O p → plus O p (conjugate O p) ≡ zeroPoint O
-  plus-conjugate p h = λ i. (first i, second i)
+  plus-conjugate p h = λ i. (x-is-one i, y-is-zero i)
     where
-      first : plus O p (conjugate O p) .0 ≡ O .one
-      first =
+      x-is-one : plus O p (conjugate O p) .0 ≡ O .one
+      x-is-one =
           solveFrom O L (p .0 ∷ p .1 ∷ []) (given Expr.:1 (squares exprs (v0, v1)) Expr.:1 ∷ []) (h, tt)
           (plus exprs (v0, v1) (conjugate exprs (v0, v1)) .0) Expr.:1 tt
 
-      second : plus O p (conjugate O p) .1 ≡ O .zero
-      second = solve O L (p .0 ∷ p .1 ∷ []) (plus exprs (v0, v1) (conjugate exprs (v0, v1)) .1) Expr.:0 tt
+      y-is-zero : plus O p (conjugate O p) .1 ≡ O .zero
+      y-is-zero = solve O L (p .0 ∷ p .1 ∷ []) (plus exprs (v0, v1) (conjugate exprs (v0, v1)) .1) Expr.:0 tt
 
   -- the x of p + p, on the circle
   pub plus-self-x : (p : O .El × O .El) → OnCircle O p → plus O p p .0 ≡ doubleX O (p .0)

@@ -54,10 +54,10 @@ module _ (O : Ops) (L : Laws O) where
 
 -- on the circle over a field only zero has x = 1
 pub zero-by-x : (O : Ops) → Field O → (p : O .El × O .El) → OnCircle O p → p .0 ≡ O .one → p ≡ zeroPoint O
-zero-by-x O K p h e = λ i. (e i, second i)
+zero-by-x O K p h e = λ i. (e i, y-is-zero i)
   where
-    second : p .1 ≡ O .zero
-    second =
+    y-is-zero : p .1 ≡ O .zero
+    y-is-zero =
         F.square-zero O K (p .1)
         (solveFrom O (K .laws) (p .0 ∷ p .1 ∷ [])
         (given Expr.:1 (squares exprs (v0, v1)) Expr.:1 ∷ given (:- (v0 :+ Expr.:1)) v0 Expr.:1 ∷ []) (h, (e, tt)) (v1 :* v1) Expr.:0 tt)

@@ -29,27 +29,27 @@ module _ (O : Ops) (F : Field O) (r : O .El) (nonsquare : (x : O .El) → ¬ (O 
           (v0 :* v2 :* (v0 :* v2)) v3 tt
 
   pub norm-zero : (p : El × El) → norm O r p ≡ 𝟘 → p ≡ (𝟘, 𝟘)
-  norm-zero p h = λ i. (first i, second-zero p h i)
+  norm-zero p h = λ i. (first-zero i, second-zero p h i)
     where
-      first : p .0 ≡ 𝟘
-      first =
+      first-zero : p .0 ≡ 𝟘
+      first-zero =
           square-zero O F (p .0)
           (solveFrom O L (p .0 ∷ p .1 ∷ r ∷ [])
           (given Expr.:1 (norm exprs v2 (v0, v1)) Expr.:0 ∷ given (v2 :* v1) v1 Expr.:0 ∷ []) (h, (second-zero p h, tt)) (v0 :* v0) Expr.:0 tt)
 
   pub ext-mul-inv : (p : El × El) → ¬ (p ≡ (𝟘, 𝟘)) → ext O r .mul p (extInverse O r inv p) ≡ (𝟙, 𝟘)
-  ext-mul-inv p np = λ i. (first i, second i)
+  ext-mul-inv p np = λ i. (first-is-one i, second-is-zero i)
     where
       inverse : norm O r p ⊗ inv (norm O r p) ≡ 𝟙
       inverse = mul-inv (norm O r p) (λ z. np (norm-zero p z))
 
-      first : ext O r .mul p (extInverse O r inv p) .0 ≡ 𝟙
-      first =
+      first-is-one : ext O r .mul p (extInverse O r inv p) .0 ≡ 𝟙
+      first-is-one =
           solveFrom O L (p .0 ∷ p .1 ∷ inv (norm O r p) ∷ r ∷ [])
           (given Expr.:1 (norm exprs v3 (v0, v1) :* v2) Expr.:1 ∷ []) (inverse, tt) (product .0) Expr.:1 tt
 
-      second : ext O r .mul p (extInverse O r inv p) .1 ≡ 𝟘
-      second = solve O L (p .0 ∷ p .1 ∷ inv (norm O r p) ∷ r ∷ []) (product .1) Expr.:0 tt
+      second-is-zero : ext O r .mul p (extInverse O r inv p) .1 ≡ 𝟘
+      second-is-zero = solve O L (p .0 ∷ p .1 ∷ inv (norm O r p) ∷ r ∷ []) (product .1) Expr.:0 tt
 
   pub both-zero : (p : El × El) → Dec (p .0 ≡ 𝟘) → Dec (p .1 ≡ 𝟘) → Dec (p ≡ (𝟘, 𝟘))
   both-zero p (yes x) (yes y) = yes (λ i. (x i, y i))

@@ -37,11 +37,11 @@ module _ (O : Ops) (F : Field O) where
   pub square-equal : (a b : El) → a ⊗ a ≡ b ⊗ b → (a ≡ b) ⊎ (a ≡ ⊖ b)
   square-equal a b h = elim (isZero (a ⊕ ⊖ b)) [
     | yes z ↦ inl (R.equal-of-sub-zero O L a b z)
-    | no n ↦ inr (solveFrom O L (a ∷ b ∷ []) (given Expr.:1 (v0 :+ v1) Expr.:0 ∷ []) (sum n, tt) v0 (:- v1) tt)
+    | no n ↦ inr (solveFrom O L (a ∷ b ∷ []) (given Expr.:1 (v0 :+ v1) Expr.:0 ∷ []) (sum-zero n, tt) v0 (:- v1) tt)
   ]
     where
-      sum : ¬ (a ⊕ ⊖ b ≡ 𝟘) → a ⊕ b ≡ 𝟘
-      sum n =
+      sum-zero : ¬ (a ⊕ ⊖ b ≡ 𝟘) → a ⊕ b ≡ 𝟘
+      sum-zero n =
           zero-factor (a ⊕ ⊖ b) (a ⊕ b) n
           (solveFrom O L (a ∷ b ∷ []) (given Expr.:1 (v0 :* v0) (v1 :* v1) ∷ []) (h, tt) ((v0 :+ :- v1) :* (v0 :+ v1)) Expr.:0 tt)
 

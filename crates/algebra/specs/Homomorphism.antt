@@ -59,12 +59,12 @@ module _ (A B : Ops) (f : A .El → B .El) (H : Homomorphism A B f) where
       to-zero = λ i. (to-zero i, to-zero i);
       to-one = λ i. (to-one i, to-zero i);
       to-add = λ x y i. (to-add (x .0) (y .0) i, to-add (x .1) (y .1) i);
-      to-mul = λ x y i. (first x y i, second x y i);
+      to-mul = λ x y i. (to-mul-first x y i, to-mul-second x y i);
       to-neg = λ x i. (to-neg (x .0) i, to-neg (x .1) i);
     }
       where
-        first : (x y : A .El × A .El) → f (ext A r .mul x y .0) ≡ ext B s .mul (onPair f x) (onPair f y) .0
-        first x y = to-add (A .mul (x .0) (y .0)) (A .mul r (A .mul (x .1) (y .1))) ∙ ap₂ (B .add) (to-mul (x .0) (y .0)) (to-root-mul (x .1) (y .1))
+        to-mul-first : (x y : A .El × A .El) → f (ext A r .mul x y .0) ≡ ext B s .mul (onPair f x) (onPair f y) .0
+        to-mul-first x y = to-add (A .mul (x .0) (y .0)) (A .mul r (A .mul (x .1) (y .1))) ∙ ap₂ (B .add) (to-mul (x .0) (y .0)) (to-root-mul (x .1) (y .1))
 
-        second : (x y : A .El × A .El) → f (ext A r .mul x y .1) ≡ ext B s .mul (onPair f x) (onPair f y) .1
-        second x y = to-add (A .mul (x .0) (y .1)) (A .mul (x .1) (y .0)) ∙ ap₂ (B .add) (to-mul (x .0) (y .1)) (to-mul (x .1) (y .0))
+        to-mul-second : (x y : A .El × A .El) → f (ext A r .mul x y .1) ≡ ext B s .mul (onPair f x) (onPair f y) .1
+        to-mul-second x y = to-add (A .mul (x .0) (y .1)) (A .mul (x .1) (y .0)) ∙ ap₂ (B .add) (to-mul (x .0) (y .1)) (to-mul (x .1) (y .0))

@@ -65,24 +65,24 @@ module _ (O : Ops) (L : Laws O) where
   pub square-and-multiply : (a x : El) (n : ℕ) → a ⊗ pow O x (n % 2) ⊗ pow O (x ⊗ x) (n / 2) ≡ a ⊗ pow O x n
   square-and-multiply a x n =
       mul-assoc a (pow O x (n % 2)) (pow O (x ⊗ x) (n / 2))
-      ∙ ap (_⊗_ a) (ap (_⊗_ (pow O x (n % 2))) (pow-square x (n / 2)) ∙ sym (pow-add x (n % 2) (n / 2 * 2)) ∙ ap (pow O x) whole)
+      ∙ ap (_⊗_ a) (ap (_⊗_ (pow O x (n % 2))) (pow-square x (n / 2)) ∙ sym (pow-add x (n % 2) (n / 2 * 2)) ∙ ap (pow O x) div-mod-2)
     where
-      whole : n % 2 + n / 2 * 2 ≡ n
-      whole = omega arith
+      div-mod-2 : n % 2 + n / 2 * 2 ≡ n
+      div-mod-2 = omega arith
 
   pub powBySquaring-ok : (bits : ℕ) (x : El) (n : ℕ) → n < 2 ^ bits → powBySquaring O bits x n ≡ pow O x n
   unfolding powBySquaring pow
-  powBySquaring-ok zero x n h = ap (pow O x) (none n h)
+  powBySquaring-ok zero x n h = ap (pow O x) (zero-bits n h)
     where
-      none : (n : ℕ) → n < 2 ^ 0 → 0 ≡ n
-      none n l = omega arith
+      zero-bits : (n : ℕ) → n < 2 ^ 0 → 0 ≡ n
+      zero-bits n l = omega arith
   powBySquaring-ok (suc bits) x n h =
       go (n % 2) refl (N.mod-lt n {m = 2} (omega arith)) (powBySquaring-ok bits (x ⊗ x) (n / 2) (omega arith) ∙ pow-square x (n / 2))
     where
       go : (r : ℕ) → n % 2 ≡ r → r < 2 → powBySquaring O bits (x ⊗ x) (n / 2) ≡ pow O x (n / 2 * 2)
           → _≡_ {A = El} (elim r [ zero ↦ powBySquaring O bits (x ⊗ x) (n / 2) | suc r ↦ x ⊗ powBySquaring O bits (x ⊗ x) (n / 2) ]) (pow O x n)
       go zero e l ih = let w : n / 2 * 2 ≡ n = omega arith in ih ∙ ap (pow O x) w
-      go (suc r) e l ih = ap (_⊗_ x) ih ∙ ap (pow O x) (whole e l)
+      go (suc r) e l ih = ap (_⊗_ x) ih ∙ ap (pow O x) (odd-div-mod-2 e l)
         where
-          whole : n % 2 ≡ suc r → suc r < 2 → suc (n / 2 * 2) ≡ n
-          whole e l = omega arith
+          odd-div-mod-2 : n % 2 ≡ suc r → suc r < 2 → suc (n / 2 * 2) ≡ n
+          odd-div-mod-2 e l = omega arith

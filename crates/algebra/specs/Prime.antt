@@ -35,14 +35,14 @@ pub prime-by-trial : (p k : ℕ) → p < (k + 2) * (k + 2) → T (undivided k 2 
 prime-by-trial p k big t a h l z =
     elim (decLe a (k + 1)) [ yes m ↦ undivided-ok k 2 p t a (omega arith) (omega arith) z | no m ↦ large (p / a) refl (omega arith) ]
   where
-    whole : a * (p / a) ≡ p
-    whole = sym (N.add-zero (a * (p / a))) ∙ ap (λ t. a * (p / a) + t) (sym z) ∙ N.div-add-mod p a
+    divisor-times-quotient : a * (p / a) ≡ p
+    divisor-times-quotient = sym (N.add-zero (a * (p / a))) ∙ ap (λ t. a * (p / a) + t) (sym z) ∙ N.div-add-mod p a
 
     large : (b : ℕ) → p / a ≡ b → k + 2 ≤ a → ⊥
     large b e m = elim (decLe b (k + 1)) [ yes n ↦ small n | no n ↦ both (omega arith) ]
       where
         product : a * b ≡ p
-        product = ap (λ t. a * t) (sym e) ∙ whole
+        product = ap (λ t. a * t) (sym e) ∙ divisor-times-quotient
 
         both : k + 2 ≤ b → ⊥
         both n = omega (arith, N.mul-le-mul m n, product)

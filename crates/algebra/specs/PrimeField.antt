@@ -11,7 +11,7 @@ use Rattle.algebra.specs.Polynomial.{Expr, _:+_, _:*_, :-_, given, v0, v
 use Rattle.algebra.specs.Solver.{solveFrom}
 use Rattle.algebra.specs.Power.{pow}
 use Rattle.algebra.specs.Binomial.{choose, choose-absorb, choose-all, series, series-last, binomial}
-use Rattle.algebra.specs.ZMod.{Z, Z-discrete, below, residue, zmod, zmod-laws, residue-add, residue-mul, residue-self, residue-val, residue-injective}
+use Rattle.algebra.specs.ZMod.{Z, Z-discrete, val-below, residue, zmod, zmod-laws, residue-add, residue-mul, residue-self, residue-val, residue-injective}
 use Rattle.algebra.specs.Field.{Field}
 use Rattle.algebra.specs.Field as F
 use Rattle.algebra.specs.Prime.{Prime}
@@ -64,7 +64,7 @@ module _ (q : ℕ) (pos : zero < suc q) (large : 0 < q) (prime : Prime (suc q)) 
   inverse-of : (a : Z (suc q)) → Dec (a ≡ class 0) → (b : Z (suc q)) × (¬ (a ≡ class 0) → O .mul a b ≡ O .one)
   inverse-of a (yes z) = (class 0, λ n. absurd (n z))
   inverse-of a (no n) =
-      let r : (b : Z (suc q)) × (O .mul (class (a .val)) b ≡ O .one) = inverse (a .val) (a .val) (omega arith) (nonzero-pos a n) (below a) in
+      let r : (b : Z (suc q)) × (O .mul (class (a .val)) b ≡ O .one) = inverse (a .val) (a .val) (omega arith) (nonzero-pos a n) (val-below a) in
       (r .0, λ _. ap (λ t. O .mul t (r .0)) (sym (residue-val (suc q) pos a)) ∙ r .1)
 
   class-nonzero : (a : ℕ) → 0 < a → a < suc q → ¬ (class a ≡ class 0)

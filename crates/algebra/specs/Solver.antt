@@ -207,11 +207,11 @@ module _ (O : Ops) (L : Laws O) where
     pub solvePair : (e f : Expr × Expr) → T (equal (e .0) (f .0)) × T (equal (e .1) (f .1)) → valuePair e ≡ valuePair f
     solvePair e f t = λ i. (solve (e .0) (f .0) (t .0) i, solve (e .1) (f .1) (t .1) i)
 
-    abbrev pub Hold : List Given → Type 0
-    Hold [] = Unit {0}
-    Hold (given q c d ∷ hs) = (value O env c ≡ value O env d) × Hold hs
+    abbrev pub GivenHold : List Given → Type 0
+    GivenHold [] = Unit {0}
+    GivenHold (given q c d ∷ hs) = (value O env c ≡ value O env d) × GivenHold hs
 
-    combined-zero : (hs : List Given) → Hold hs → value O env (combined hs) ≡ 𝟘
+    combined-zero : (hs : List Given) → GivenHold hs → value O env (combined hs) ≡ 𝟘
     combined-zero [] h = refl
     combined-zero (given q c d ∷ hs) h =
         ap₂ _⊕_
@@ -220,5 +220,5 @@ module _ (O : Ops) (L : Laws O) where
         ∙ add-zero 𝟘
 
     -- an equation that follows from given ones
-    pub solveFrom : (hs : List Given) → Hold hs → (e f : Expr) → T (equal e (f :+ combined hs)) → value O env e ≡ value O env f
+    pub solveFrom : (hs : List Given) → GivenHold hs → (e f : Expr) → T (equal e (f :+ combined hs)) → value O env e ≡ value O env f
     solveFrom hs h e f t = solve e (f :+ combined hs) t ∙ ap (_⊕_ (value O env f)) (combined-zero hs h) ∙ add-zero (value O env f)

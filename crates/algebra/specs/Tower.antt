@@ -37,12 +37,12 @@ pub complex-laws : (O : Ops) → Laws O → Laws (complex O)
 complex-laws O L = ext-laws O L (O .neg (O .one))
 
 -- two numbers below P are different elements
-differ : (a b : ℕ) → a < P → b < P → (a ≡ b → ⊥) → ¬ (element a ≡ element b)
-differ a b l m n e = n (residue-injective P P-pos a b l m e)
+elements-differ : (a b : ℕ) → a < P → b < P → (a ≡ b → ⊥) → ¬ (element a ≡ element b)
+elements-differ a b l m n e = n (residue-injective P P-pos a b l m e)
 
 minus-one-nonone : ¬ (m31 .neg (m31 .one) ≡ m31 .one)
 unfolding residue zneg
-minus-one-nonone = differ 2147483646 1 (lit< tt) (lit< tt) (λ e. omega (arith, e))
+minus-one-nonone = elements-differ 2147483646 1 (lit< tt) (lit< tt) (λ e. omega (arith, e))
 
 -- Euler's criterion: c is no square where c^((P - 1) / 2) = -1
 nonsquare-by-euler : (c : Z P) → ¬ (c ≡ m31 .zero) → powBySquaring m31 30 c 1073741823 ≡ m31 .neg (m31 .one) → (x : Z P) → ¬ (m31 .mul x x ≡ c)
@@ -57,18 +57,18 @@ nonsquare-by-euler c nonzero h x e =
 pub minus-one-nonsquare : (x : Z P) → ¬ (m31 .mul x x ≡ m31 .neg (m31 .one))
 unfolding residue zneg zmul powBySquaring
 minus-one-nonsquare =
-    nonsquare-by-euler (m31 .neg (m31 .one)) (differ 2147483646 0 (lit< tt) P-pos (λ e. omega (arith, e))) refl
+    nonsquare-by-euler (m31 .neg (m31 .one)) (elements-differ 2147483646 0 (lit< tt) P-pos (λ e. omega (arith, e))) refl
 
 five-nonsquare : (x : Z P) → ¬ (m31 .mul x x ≡ element 5)
 unfolding residue zneg zmul powBySquaring
-five-nonsquare = nonsquare-by-euler (element 5) (differ 5 0 (lit< tt) P-pos (λ e. omega (arith, e))) refl
+five-nonsquare = nonsquare-by-euler (element 5) (elements-differ 5 0 (lit< tt) P-pos (λ e. omega (arith, e))) refl
 
 abbrev pub cm31-field : Field cm31
 cm31-field = ext-field m31 m31-field (m31 .neg (m31 .one)) minus-one-nonsquare
 
-five : m31 .add (m31 .mul (two m31) (two m31)) (m31 .one) ≡ element 5
+two-squared-plus-one : m31 .add (m31 .mul (two m31) (two m31)) (m31 .one) ≡ element 5
 unfolding residue zadd zmul
-five = refl
+two-squared-plus-one = refl
 
 -- (a + bi)² = 2 + i would give (a² + b²)² = (a² - b²)² + (2ab)² = 5
 pub twoPlusI-nonsquare : (p : Z P × Z P) → ¬ (cm31 .mul p p ≡ twoPlusI m31)
@@ -77,7 +77,7 @@ twoPlusI-nonsquare p e =
     (solveFrom m31 m31-laws (p .0 ∷ p .1 ∷ [])
     (given (re :+ two exprs) re (two exprs) ∷ given (im :+ Expr.:1) im Expr.:1 ∷ []) (ap (λ t. t .0) e, (ap (λ t. t .1) e, tt))
     ((v0 :* v0 :+ v1 :* v1) :* (v0 :* v0 :+ v1 :* v1)) (two exprs :* two exprs :+ Expr.:1) tt
-    ∙ five)
+    ∙ two-squared-plus-one)
   where
     re : Expr
     re = complex exprs .mul (v0, v1) (v0, v1) .0

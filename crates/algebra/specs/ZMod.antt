@@ -14,8 +14,8 @@ pub record Z (m : ℕ) : Type 0 where
   pub val : ℕ
   pub low : T (ltb val m)
 
-pub below : {m : ℕ} (a : Z m) → a .val < m
-below {m} a = ltb→lt (a .val) m (a .low)
+pub val-below : {m : ℕ} (a : Z m) → a .val < m
+val-below {m} a = ltb→lt (a .val) m (a .low)
 
 pub Z-path : {m : ℕ} (a b : Z m) → a .val ≡ b .val → a ≡ b
 Z-path {m} a b p =
@@ -61,11 +61,11 @@ module _ (m : ℕ) (pos : zero < m) where
   zmod-laws = record {
     add-assoc = λ a b c. Z-path _ _ (N.mod-add-mod (a .val + b .val) m (c .val) ∙ ap (λ t. t % m) (N.add-assoc (a .val) (b .val) (c .val)) ∙ sym (N.add-mod-mod (a .val) (b .val + c .val) m));
     add-comm = λ a b. ap residue (N.add-comm (a .val) (b .val));
-    add-zero = λ a. Z-path _ _ (N.add-mod-mod (a .val) 0 m ∙ ap (λ t. t % m) (N.add-zero (a .val)) ∙ N.mod-eq-of-lt (below a));
-    add-neg = λ a. let h : a .val < m = below a in Z-path _ _ (N.add-mod-mod (a .val) (m - a .val) m ∙ ap (λ t. t % m) (omega arith) ∙ N.mod-self m ∙ sym (N.zero-mod m));
+    add-zero = λ a. Z-path _ _ (N.add-mod-mod (a .val) 0 m ∙ ap (λ t. t % m) (N.add-zero (a .val)) ∙ N.mod-eq-of-lt (val-below a));
+    add-neg = λ a. let h : a .val < m = val-below a in Z-path _ _ (N.add-mod-mod (a .val) (m - a .val) m ∙ ap (λ t. t % m) (omega arith) ∙ N.mod-self m ∙ sym (N.zero-mod m));
     mul-assoc = λ a b c. Z-path _ _ (mod-mul-mod (a .val * b .val) (c .val) m ∙ ap (λ t. t % m) (N.mul-assoc (a .val) (b .val) (c .val)) ∙ sym (mul-mod-mod (a .val) (b .val * c .val) m));
     mul-comm = λ a b. ap residue (N.mul-comm (a .val) (b .val));
-    mul-one = λ a. Z-path _ _ (mul-mod-mod (a .val) 1 m ∙ ap (λ t. t % m) (N.mul-one (a .val)) ∙ N.mod-eq-of-lt (below a));
+    mul-one = λ a. Z-path _ _ (mul-mod-mod (a .val) 1 m ∙ ap (λ t. t % m) (N.mul-one (a .val)) ∙ N.mod-eq-of-lt (val-below a));
     mul-add = λ a b c. Z-path _ _ (mul-mod-mod (a .val) (b .val + c .val) m ∙ ap (λ t. t % m) (N.mul-add (a .val) (b .val) (c .val)) ∙ N.add-mod (a .val * b .val) (a .val * c .val) m);
   }
 
@@ -93,7 +93,7 @@ module _ (m : ℕ) (pos : zero < m) where
   -- it is onto, and one-to-one below m
   pub residue-val : (a : Z m) → residue (a .val) ≡ a
   unfolding residue
-  residue-val a = Z-path _ _ (N.mod-eq-of-lt (below a))
+  residue-val a = Z-path _ _ (N.mod-eq-of-lt (val-below a))
 
   pub val-residue : (n : ℕ) → residue n .val ≡ n % m
   unfolding residue

@@ -15,7 +15,7 @@ use Rattle.algebra.specs.M31.{P}
 use Rattle.batch.specs.Batch.{Layout, ColumnField, m31Column, cm31Column, qm31Column, columnOf, inverted}
 use Rattle.batch.specs.Batch.{firstZero, count, lengthsFit, nonzero, wordsAnswer, inPlaceAnswer, chunkedAnswer, batchExit}
 use Rattle.batch.specs.Layouts.{LayoutLaws}
-use Rattle.batch.specs.Passes.{Units, Column, Holds, size, at, inverses, unitsOf}
+use Rattle.batch.specs.Passes.{Units, UnitColumn, Holds, size, at, inverses, unitsOf}
 use Rattle.batch.specs.PassContracts.{Inverted}
 use Rattle.batch.specs.declared.Field.{Field}
 use Rattle.batch.specs.declared.Field.the-variants as F
@@ -95,7 +95,7 @@ below column h j l = leb-false P (getD column j 0) (h .none j l)
 
 -- a column that is accepted holds elements that can be inverted
 pub column-of : (f : Field) (column : List ℕ) → length column % columnOf f .layout .width ≡ 0 → wordsAnswer (columnOf f) column ≡ Written
-    → Column (unitsOf f) (size (unitsOf f) column) column
+    → UnitColumn (unitsOf f) (size (unitsOf f) column) column
 unfolding columnOf unitsOf
 column-of F.M31 column r e =
     let low = below column (no-bad m31Column column e) in record {
@@ -173,7 +173,7 @@ pub record Kept (from : ℕ) (dst before : List ℕ) : Type 0 where
   pub kept : (j : ℕ) → from ≤ j → getD dst j 0 ≡ getD before j 0
 
 -- the elements a to b of a column, inverted by themselves
-module _ (U : Units) (column : List ℕ) (n a b : ℕ) (c : Column U n column) (ordered : a ≤ b) (inside : b ≤ n) where
+module _ (U : Units) (column : List ℕ) (n a b : ℕ) (c : UnitColumn U n column) (ordered : a ≤ b) (inside : b ≤ n) where
   open Layout (U .layout) using (El, width, read)
   open LayoutLaws (U .laws) using (read-words)
 
@@ -196,7 +196,7 @@ module _ (U : Units) (column : List ℕ) (n a b : ℕ) (c : Column U n column) (
   part-length : (l : List ℕ) → n * width ≤ length l → length (part l) ≡ b * width - a * width
   part-length l h = mid-len (a * width) (b * width) l (N.le-trans (N.mul-le-mul-right {m = b} {n = n} width inside) h)
 
-  pub part-column : Column U (b - a) (part column)
+  pub part-column : UnitColumn U (b - a) (part column)
   part-column = record {
     whole = part-length column (omega (arith, c .whole)) ∙ sym between;
     units = λ i h. subst (U .Unit) (sym (part-at column i (omega arith))) (c .units (a + i) (omega arith));
@@ -250,7 +250,7 @@ order : (w a b : ℕ) → 0 < w → a * w ≤ b * w → a ≤ b
 order w a b p h = elim (decLt b a) [ yes lt ↦ omega (arith, within w b a lt) | no ge ↦ omega arith ]
 
 -- a part by its first and last word, which are those of elements
-module _ (U : Units) (column : List ℕ) (n : ℕ) (c : Column U n column) (from to : ℕ) (start : from ≡ from / U .layout .width * U .layout .width)
+module _ (U : Units) (column : List ℕ) (n : ℕ) (c : UnitColumn U n column) (from to : ℕ) (start : from ≡ from / U .layout .width * U .layout .width)
     (end : to ≡ to / U .layout .width * U .layout .width) (ordered : from ≤ to) (inside : to ≤ length column) where
   open Layout (U .layout) using (width)
 
@@ -271,10 +271,10 @@ module _ (U : Units) (column : List ℕ) (n : ℕ) (c : Column U n column) (from
       ap (λ (l : List ℕ). length l / width) (same-part column)
       ∙ ap (λ (k : ℕ). k / width) (part-column U column n (from / width) (to / width) c a≤b b≤n .whole) ∙ N.mul-div-cancel (to / width - from / width) (U .laws .width-pos)
 
-  pub mid-column : Column U (length (mid column) / width) (mid column)
+  pub mid-column : UnitColumn U (length (mid column) / width) (mid column)
   mid-column =
-      subst⁻¹ (λ (k : ℕ). Column U k (mid column)) part-count
-      (subst⁻¹ (Column U (to / width - from / width)) (same-part column) (part-column U column n (from / width) (to / width) c a≤b b≤n))
+      subst⁻¹ (λ (k : ℕ). UnitColumn U k (mid column)) part-count
+      (subst⁻¹ (UnitColumn U (to / width - from / width)) (same-part column) (part-column U column n (from / width) (to / width) c a≤b b≤n))
 
   module _ (dst after : List ℕ) (long : length column ≤ length dst)
       (e : after ≡ putMid from (to - from) dst (inverted (U .layout) (U .inverse) (length (mid column) / width) (mid column) (mid dst))) where

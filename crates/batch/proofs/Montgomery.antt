@@ -8,10 +8,10 @@ use native.Mathlib.Decide.{decLt}
 use native.Mathlib.Omega.{arith}
 use lib.ListN.{length, getD, List·getD-eq-default}
 use lib.Seq.{ext-getD}
-use Rattle.fields.specs.PairLaws.{four}
+use Rattle.fields.specs.PairLaws.{four-path}
 use Rattle.batch.specs.Batch.{Layout, inverted}
 use Rattle.batch.specs.Layouts.{LayoutLaws, read-other}
-use Rattle.batch.specs.Passes.{Units, Column, Holds, size, at, product, inverses, pairUnits, laneUnits}
+use Rattle.batch.specs.Passes.{Units, UnitColumn, Holds, size, at, product, inverses, pairUnits, laneUnits}
 use Rattle.batch.specs.PassContracts.{Inverting, Inverted, BeforeProducts, AfterProducts, BeforeInverses, AfterInverses}
 
 -- element k of n lies within n elements
@@ -30,7 +30,7 @@ module _ (U : Units) where
   pub same-unit : (a b : El) → a ≡ b → Unit b → Unit a
   same-unit a b e u = subst⁻¹ Unit e u
 
-  pub product-unit : (column : List ℕ) (n k : ℕ) → Column U n column → k < n → Unit (product U column k)
+  pub product-unit : (column : List ℕ) (n k : ℕ) → UnitColumn U n column → k < n → Unit (product U column k)
   unfolding product
   product-unit column n zero c h = c .units 0 h
   product-unit column n (suc k) c h = mul-unit _ _ (product-unit column n k c (omega arith)) (c .units (suc k) h)
@@ -58,7 +58,7 @@ module _ (U : Units) where
     pub four-inverses : {a b c d : El} → d ≡ mul three rest → c ≡ mul two rest′ → b ≡ mul (x .0 .0) rest″ → a ≡ mul rest″ (x .0 .1)
         → ((a, b), (c, d)) ≡ laneUnits U .inverse x
     four-inverses k l m n =
-        four (n ∙ ap (λ t. mul t (x .0 .1)) rest″-is ∙ inverse-first _ _ (u .0 .0) (u .0 .1))
+        four-path (n ∙ ap (λ t. mul t (x .0 .1)) rest″-is ∙ inverse-first _ _ (u .0 .0) (u .0 .1))
         (m ∙ ap (mul (x .0 .0)) rest″-is ∙ inverse-second _ _ (u .0 .0) (u .0 .1))
         (l ∙ ap (mul two) rest′-is ∙ inverse-second _ _ two-unit (u .1 .0))
         (k ∙ ap (mul three) rest-is ∙ inverse-second _ _ three-unit (u .1 .1))
@@ -74,7 +74,7 @@ module _ (U : Units) where
       index = omega arith
 
   -- the inverses, going down: rest is the inverse of the product up to k
-  module _ (column : List ℕ) (n : ℕ) (c : Column U n column) where
+  module _ (column : List ℕ) (n : ℕ) (c : UnitColumn U n column) where
     pub inverse-at : (k : ℕ) (last rest : El) → 0 < k → k < n → last ≡ product U column (k - 1) → rest ≡ inverse (product U column k)
         → mul last rest ≡ inverses U column k
     unfolding product
@@ -122,7 +122,7 @@ module _ (U : Units) where
     holds-below m le h = record { holds = λ j lo hi. other j (inl (omega arith)) ∙ h .holds j lo (omega arith) }
 
   -- some words are some elements
-  pub some-elements : {column : List ℕ} → Column U (size U column) column → 0 < length column → 0 < size U column
+  pub some-elements : {column : List ℕ} → UnitColumn U (size U column) column → 0 < length column → 0 < size U column
   some-elements {column} c h =
       elim (decLt 0 (size U column)) [ yes some ↦ some | no none ↦ absurd (N.not-le-of-lt h (no-words (omega arith))) ]
     where
@@ -130,11 +130,11 @@ module _ (U : Units) where
       no-words e = N.le-of-eq (c .whole ∙ ap (λ (n : ℕ). n * width) e ∙ N.zero-mul width)
 
   -- element k of the column
-  pub element-unit : {column : List ℕ} {n : ℕ} {a : El} → Column U n column → (k : ℕ) → k < n → a ≡ at U column k → Unit a
+  pub element-unit : {column : List ℕ} {n : ℕ} {a : El} → UnitColumn U n column → (k : ℕ) → k < n → a ≡ at U column k → Unit a
   element-unit c k h e = same-unit _ _ e (c .units k h)
 
   -- and its place in a destination as long
-  place : {column : List ℕ} {n : ℕ} → Column U n column → (dst : List ℕ) (k : ℕ) → length dst ≡ length column → k < n
+  place : {column : List ℕ} {n : ℕ} → UnitColumn U n column → (dst : List ℕ) (k : ℕ) → length dst ≡ length column → k < n
       → k * width + width ≤ length dst
   place {column} {n} c dst k l h = omega (arith, within width k n h, c .whole)
 
@@ -199,9 +199,9 @@ module _ (U : Units) where
         same-unit _ _ (w .whole) (product-unit column (size U column) (size U column - 1) (p .elements) (omega arith))
 
     -- from the end of the pass up the pass down starts
-    pub turn : {exit : List ℕ} {whole rest : El} → AfterProducts U column exit whole → length exit ≡ length dst₀ → rest ≡ inverse whole
+    pub before-inverses : {exit : List ℕ} {whole rest : El} → AfterProducts U column exit whole → length exit ≡ length dst₀ → rest ≡ inverse whole
         → BeforeInverses U column exit rest
-    turn w l e = record {
+    before-inverses w l e = record {
       elements = p .elements;
       room = l ∙ p .room;
       nonempty = p .nonempty;
@@ -330,8 +330,8 @@ module _ (U : Units) where
     result = is-inverted-whole column dst (size U column) exit l (p .room ∙ p .elements .whole) (w .result);
   }
 
-  pub start : {column dst : List ℕ} → Inverting U column dst → 0 < length column → BeforeProducts U column dst
-  start p h = record { elements = p .elements; room = p .room; nonempty = h }
+  pub before-products : {column dst : List ℕ} → Inverting U column dst → 0 < length column → BeforeProducts U column dst
+  before-products p h = record { elements = p .elements; room = p .room; nonempty = h }
 
   -- elements two by two
   even-place : (k : ℕ) → k * 2 * width ≡ k * (width + width)
@@ -346,7 +346,7 @@ module _ (U : Units) where
   odd-at : (column : List ℕ) (k : ℕ) → at (pairUnits U) column k .1 ≡ at U column (k * 2 + 1)
   odd-at column k = ap (read column) (sym (odd-place k))
 
-  pub pair-column : (n : ℕ) (column : List ℕ) → Column U (n * 2) column → Column (pairUnits U) n column
+  pub pair-column : (n : ℕ) (column : List ℕ) → UnitColumn U (n * 2) column → UnitColumn (pairUnits U) n column
   pair-column n column c = record {
     whole = c .whole ∙ even-place n;
     units = λ k h. (same-unit _ _ (even-at column k) (c .units (k * 2) (omega arith)), same-unit _ _ (odd-at column k) (c .units (k * 2 + 1) (omega arith)));
@@ -399,7 +399,7 @@ module _ (U : Units) {column dst : List ℕ} (p : Inverting U column dst) (fours
   pub lanes-start : 0 < length column → BeforeProducts (laneUnits U) column dst
   lanes-start h = record {
     elements =
-        pair-column (pairUnits U) m column (pair-column U (m * 2) column (subst (λ (k : ℕ). Column U k column) four-each (p .elements)));
+        pair-column (pairUnits U) m column (pair-column U (m * 2) column (subst (λ (k : ℕ). UnitColumn U k column) four-each (p .elements)));
     room = p .room;
     nonempty = h;
   }

@@ -4,7 +4,7 @@ use mathlib.Core.Path.{_≡_}
 use mathlib.Core.List.{List}
 use lib.ListN.{length}
 use Rattle.batch.specs.Batch.{Layout, inverted}
-use Rattle.batch.specs.Passes.{Units, Column, Holds, size, product, inverses}
+use Rattle.batch.specs.Passes.{Units, UnitColumn, Holds, size, product, inverses}
 
 module _ (U : Units) where
   open Layout (U .layout) using (El, width)
@@ -16,12 +16,12 @@ module _ (U : Units) where
 
   -- a column to be inverted, and a destination as long
   pub record Inverting (column dst : List ℕ) : Type 0 where
-    pub elements : Column U (size U column) column
+    pub elements : UnitColumn U (size U column) column
     pub room : length dst ≡ length column
 
   -- one to be inverted part after part of so many words, and a destination no shorter
   pub record InvertingParts (column dst : List ℕ) (words : ℕ) : Type 0 where
-    pub elements : Column U (size U column) column
+    pub elements : UnitColumn U (size U column) column
     pub room : length column ≤ length dst
     pub some : 0 < length column → 0 < words
     pub even : words ≡ words / width * width
@@ -32,7 +32,7 @@ module _ (U : Units) where
 
   -- the pass of products takes a column of one element or more
   pub record BeforeProducts (column dst : List ℕ) : Type 0 where
-    pub elements : Column U (size U column) column
+    pub elements : UnitColumn U (size U column) column
     pub room : length dst ≡ length column
     pub nonempty : 0 < length column
 
@@ -43,7 +43,7 @@ module _ (U : Units) where
 
   -- the pass of inverses takes these products, and the inverse of the whole product
   pub record BeforeInverses (column dst : List ℕ) (rest : El) : Type 0 where
-    pub elements : Column U (size U column) column
+    pub elements : UnitColumn U (size U column) column
     pub room : length dst ≡ length column
     pub nonempty : 0 < length column
     pub products : Holds U (product U column) 0 (size U column) dst

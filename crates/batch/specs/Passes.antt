@@ -93,7 +93,7 @@ module _ (U : Units) where
   at column k = read column (k * width)
 
   -- a column of n elements that can be inverted
-  pub record Column (n : ℕ) (column : List ℕ) : Type 0 where
+  pub record UnitColumn (n : ℕ) (column : List ℕ) : Type 0 where
     pub whole : length column ≡ n * width
     pub units : (k : ℕ) → k < n → U .Unit (at column k)
 

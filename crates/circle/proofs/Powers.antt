@@ -24,8 +24,8 @@ doubled-index zero = sym (multiple-one words31 m31 m31-representation generator 
 doubled-index (suc k) = ap (double words31) (doubled-index k) ∙ index-double (2 ^ k) (2 ^ suc k) 0 (omega (arith, N.pow-succ' 2 k))
 
 -- the constant of a case
-pub power : (p : CirclePoint) (log k : ℕ) → log ≡ k → pointOf p ≡ doubled k → (pointOf p ≡ indexPoint (2 ^ log)) × Reduced p
-power p log k e is =
+pub power-of-doubled : (p : CirclePoint) (log k : ℕ) → log ≡ k → pointOf p ≡ doubled k → (pointOf p ≡ indexPoint (2 ^ log)) × Reduced p
+power-of-doubled p log k e is =
     let at : pointOf p ≡ indexPoint (2 ^ log) = is ∙ doubled-index k ∙ ap (λ (n : ℕ). indexPoint (2 ^ n)) (sym e) in
     let below = index-below (2 ^ log) in
     (at, (subst (λ (q : ℕ × ℕ). q .0 < P) (sym at) (below .0), subst (λ (q : ℕ × ℕ). q .1 < P) (sym at) (below .1)))

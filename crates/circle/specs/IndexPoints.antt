@@ -19,7 +19,7 @@ use Rattle.algebra.specs.Generator.{G, G-on, G-equal, G-quarter, G-antipode, G-
 use Rattle.fields.specs.Words.{negP, words31}
 use Rattle.fields.specs.Elements.{element-homomorphism}
 use Rattle.fields.specs.Representation.{solveWords}
-use Rattle.fields.specs.Inverse.{m31-representation, minus-one}
+use Rattle.fields.specs.Inverse.{m31-representation, element-minus-one}
 use Rattle.circle.specs.Formulas.{antipode}
 use Rattle.circle.specs.Point.{generator}
 use Rattle.circle.specs.Index.{indexPoint}
@@ -48,10 +48,10 @@ index-equal j k = (
 )
 
 pub index-reduce : (k : ℕ) → indexPoint (k % 2 ^ 31) ≡ indexPoint k
-index-reduce k = index-equal (k % 2 ^ 31) k .1 (again k)
+index-reduce k = index-equal (k % 2 ^ 31) k .1 (mod-mod k)
   where
-    again : (k : ℕ) → k % 2 ^ 31 % 2 ^ 31 ≡ k % 2 ^ 31
-    again k = omega arith
+    mod-mod : (k : ℕ) → k % 2 ^ 31 % 2 ^ 31 ≡ k % 2 ^ 31
+    mod-mod k = omega arith
 
 pub index-add : (j k : ℕ) → indexPoint ((j + k) % 2 ^ 31) ≡ plus words31 (indexPoint j) (indexPoint k)
 index-add j k = index-reduce (j + k) ∙ multiple-add words31 m31 m31-representation j k generator
@@ -63,22 +63,22 @@ index-double j k turns e =
     sym (index-add j j) ∙ index-reduce (j + j) ∙ index-equal (j + j) k .1 (ap (λ (t : ℕ). t % 2 ^ 31) twice ∙ N.add-mul-mod-self-right k turns (2 ^ 31))
 
 -- 2^31 divides 2^64
-pub low-product : (m : ℕ) → m % 2 ^ 31 ≡ m % 2 ^ 64 % 2 ^ 31
-low-product m = omega arith
+pub mod-64-mod-31 : (m : ℕ) → m % 2 ^ 31 ≡ m % 2 ^ 64 % 2 ^ 31
+mod-64-mod-31 m = omega arith
 
 -- so the product modulo 2^64 has the point of the product
 pub index-mul : (k n : ℕ) → indexPoint ((k * n) % 2 ^ 64 % 2 ^ 31) ≡ multiple words31 n (indexPoint k)
 index-mul k n =
-    ap indexPoint (sym (low-product (k * n))) ∙ index-reduce (k * n) ∙ ap indexPoint (N.mul-comm k n)
+    ap indexPoint (sym (mod-64-mod-31 (k * n))) ∙ index-reduce (k * n) ∙ ap indexPoint (N.mul-comm k n)
     ∙ multiple-mul words31 m31 m31-representation n k generator
 
 -- 2^29 G = (0, -1)
 pub index-quarter : indexPoint (2 ^ 29) ≡ (0, P - 1)
-index-quarter = sym (index-unique (0, P - 1) (2 ^ 29) (P-pos, lit< tt) ((λ i. (m31 .zero, minus-one i)) ∙ sym G-quarter))
+index-quarter = sym (index-unique (0, P - 1) (2 ^ 29) (P-pos, lit< tt) ((λ i. (m31 .zero, element-minus-one i)) ∙ sym G-quarter))
 
 -- a quarter of a turn further lies (y, -x)
-pub index-turned : (k : ℕ) → indexPoint (k + 2 ^ 29) ≡ (indexPoint k .1, negP (indexPoint k .0))
-index-turned k =
+pub index-add-quarter : (k : ℕ) → indexPoint (k + 2 ^ 29) ≡ (indexPoint k .1, negP (indexPoint k .0))
+index-add-quarter k =
     sym (index-reduce (k + 2 ^ 29)) ∙ index-add k (2 ^ 29) ∙ ap (plus words31 (indexPoint k)) index-quarter
     ∙ (λ i. (
       solveWords words31 m31 m31-representation (indexPoint k .0 ∷ indexPoint k .1 ∷ [])
@@ -101,22 +101,22 @@ index-conjugate k h =
 
 -- where y = 0 the point is its own conjugate, where x = 0 the conjugate is the antipode
 module _ (k : ℕ) (lo : 0 < k) (hi : k < 2 ^ 31) where
-  low : (2 ^ 31 - k) % 2 ^ 31 ≡ 2 ^ 31 - k
-  low = N.mod-eq-of-lt (omega arith)
+  negative-mod : (2 ^ 31 - k) % 2 ^ 31 ≡ 2 ^ 31 - k
+  negative-mod = N.mod-eq-of-lt (omega arith)
 
   pub index-y-zero : indexPoint k .1 ≡ 0 → k ≡ 2 ^ 30
   index-y-zero e =
-      let same : conjugate words31 (indexPoint k) ≡ indexPoint k = λ i. (indexPoint k .0, (ap negP e ∙ sym e) i) in
-      omega (arith, index-equal (2 ^ 31 - k) k .0 (index-conjugate k (omega arith) ∙ same), low, N.mod-eq-of-lt hi)
+      let own-conjugate : conjugate words31 (indexPoint k) ≡ indexPoint k = λ i. (indexPoint k .0, (ap negP e ∙ sym e) i) in
+      omega (arith, index-equal (2 ^ 31 - k) k .0 (index-conjugate k (omega arith) ∙ own-conjugate), negative-mod, N.mod-eq-of-lt hi)
 
   pub index-x-zero : indexPoint k .0 ≡ 0 → (k ≡ 2 ^ 29) ⊎ (k ≡ 3 * 2 ^ 29)
   index-x-zero e = elim (decLt k (2 ^ 30)) [
-    | yes l ↦ inl (omega (arith, turned, N.mod-eq-of-lt {n = k + 2 ^ 30} {m = 2 ^ 31} (omega arith)))
-    | no g ↦ inr (omega (arith, turned, N.mod-eq-sub-mod {n = k + 2 ^ 30} {m = 2 ^ 31} (omega arith) ∙ N.mod-eq-of-lt (omega arith)))
+    | yes l ↦ inl (omega (arith, negative-is-antipode, N.mod-eq-of-lt {n = k + 2 ^ 30} {m = 2 ^ 31} (omega arith)))
+    | no g ↦ inr (omega (arith, negative-is-antipode, N.mod-eq-sub-mod {n = k + 2 ^ 30} {m = 2 ^ 31} (omega arith) ∙ N.mod-eq-of-lt (omega arith)))
   ]
     where
-      same : conjugate words31 (indexPoint k) ≡ antipode words31 (indexPoint k)
-      same = λ i. ((e ∙ sym (ap negP e)) i, negP (indexPoint k .1))
+      conjugate-is-antipode : conjugate words31 (indexPoint k) ≡ antipode words31 (indexPoint k)
+      conjugate-is-antipode = λ i. ((e ∙ sym (ap negP e)) i, negP (indexPoint k .1))
 
-      turned : 2 ^ 31 - k ≡ (k + 2 ^ 30) % 2 ^ 31
-      turned = sym low ∙ index-equal (2 ^ 31 - k) (k + 2 ^ 30) .0 (index-conjugate k (omega arith) ∙ same ∙ sym (index-antipode k))
+      negative-is-antipode : 2 ^ 31 - k ≡ (k + 2 ^ 30) % 2 ^ 31
+      negative-is-antipode = sym negative-mod ∙ index-equal (2 ^ 31 - k) (k + 2 ^ 30) .0 (index-conjugate k (omega arith) ∙ conjugate-is-antipode ∙ sym (index-antipode k))

@@ -74,8 +74,8 @@ first-reaches test (suc n) h = reaches-case test (first (λ k. test (suc k)) n) 
 is-zero : (p : ℕ × ℕ) → isZero p ≡ true → p ≡ zeroPoint words31
 is-zero p e = let h = and-eq-true-iff (eqb (p .0) 1) (eqb (p .1) 0) .0 e in λ i. (eqb-true (p .0) 1 (h .0) i, eqb-true (p .1) 0 (h .1) i)
 
-zero-is : (p : ℕ × ℕ) → p ≡ zeroPoint words31 → isZero p ≡ true
-zero-is p e = ap isZero e
+is-zero-holds : (p : ℕ × ℕ) → p ≡ zeroPoint words31 → isZero p ≡ true
+is-zero-holds p e = ap isZero e
 
 module _ (p : ℕ × ℕ) (h : Words p) (on : OnCircle words31 p) where
   on-field : OnCircle m31 (onPair element p)
@@ -108,7 +108,7 @@ module _ (p : ℕ × ℕ) (h : Words p) (on : OnCircle words31 p) where
       (ap (λ t. t .0) (to-doubled n) ∙ doublings-x m31 m31-laws n (onPair element p) on-field ∙ sym (to-doubled-x n (p .0)))
 
   zero-test : (n : ℕ) (t : Bool) → isOneAfter (p .0) n ≡ t → isZero (doubled n p) ≡ t
-  zero-test n true e = zero-is (doubled n p) (zero-where-one n (doubled-x n ∙ eqb-true (iterate n (doubleX words31) (p .0)) 1 e))
+  zero-test n true e = is-zero-holds (doubled n p) (zero-where-one n (doubled-x n ∙ eqb-true (iterate n (doubleX words31) (p .0)) 1 e))
   zero-test n false e = ap (λ (u : Bool). u && eqb (doubled n p .1) 0) (ap (λ (x : ℕ). eqb x 1) (doubled-x n) ∙ e)
 
   -- so x alone gives the log order
@@ -118,12 +118,12 @@ module _ (p : ℕ × ℕ) (h : Words p) (on : OnCircle words31 p) where
 
   pub log-order-reaches : doubled (logOrder p) p ≡ zeroPoint words31
   unfolding logOrder
-  log-order-reaches = is-zero (doubled (logOrder p) p) (first-reaches (λ n. isZero (doubled n p)) 31 (zero-is (doubled 31 p) doubled-31))
+  log-order-reaches = is-zero (doubled (logOrder p) p) (first-reaches (λ n. isZero (doubled n p)) 31 (is-zero-holds (doubled 31 p) doubled-31))
 
 -- of any point
 pub log-order-least : (p : ℕ × ℕ) (n : ℕ) → n < logOrder p → ¬ (doubled n p ≡ zeroPoint words31)
 unfolding logOrder
-log-order-least p n l e = true≢false (sym (zero-is (doubled n p) e) ∙ first-least (λ m. isZero (doubled m p)) 31 n l)
+log-order-least p n l e = true≢false (sym (is-zero-holds (doubled n p) e) ∙ first-least (λ m. isZero (doubled m p)) 31 n l)
 
 pub log-order-most : (p : ℕ × ℕ) → logOrder p ≤ 31
 unfolding logOrder

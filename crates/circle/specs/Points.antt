@@ -20,8 +20,8 @@ module _ (W K : Ops) (H : Representation W K) where
   abbrev pub PointReduced : W .El × W .El → Type 0
   PointReduced p = Reduced (p .0) × Reduced (p .1)
 
-  pub twice : (a : W .El) → W .add a a ≡ W .mul (two W) a
-  twice a = solveWords W K H (a ∷ []) (v0 :+ v0) (two exprs :* v0) (add-reduced _ _) (mul-reduced _ _) tt
+  pub add-self-two : (a : W .El) → W .add a a ≡ W .mul (two W) a
+  add-self-two a = solveWords W K H (a ∷ []) (v0 :+ v0) (two exprs :* v0) (add-reduced _ _) (mul-reduced _ _) tt
 
   -- reduced words of one point are equal
   pub point-injective : (p q : W .El × W .El) → PointReduced p → PointReduced q → onPair element p ≡ onPair element q → p ≡ q

@@ -19,18 +19,18 @@ abbrev pub pointAt : List ℕ → ℕ → ℕ × ℕ
 pointAt words k = (getD words (2 * k) 0, getD words (2 * k + 1) 0)
 
 -- the first point apart
-next-point : (x y : ℕ) (words : List ℕ) (k : ℕ) → pointAt (x ∷ y ∷ words) (suc k) ≡ pointAt words k
-next-point x y words k =
+point-at-cons : (x y : ℕ) (words : List ℕ) (k : ℕ) → pointAt (x ∷ y ∷ words) (suc k) ≡ pointAt words k
+point-at-cons x y words k =
     let e : 2 * suc k ≡ suc (suc (2 * k)) = omega arith in
     let f : 2 * suc k + 1 ≡ suc (suc (2 * k + 1)) = omega arith in
     λ i. (getD (x ∷ y ∷ words) (e i) 0, getD (x ∷ y ∷ words) (f i) 0)
 
 -- points of the first list, and past it
-first-list : (xs ys : List ℕ) (n k : ℕ) → length xs ≡ 2 * n → k < n → pointAt (xs ++ ys) k ≡ pointAt xs k
-first-list xs ys n k e h = λ i. (List·getD-append xs ys 0 (2 * k) (omega (arith, e)) i, List·getD-append xs ys 0 (2 * k + 1) (omega (arith, e)) i)
+point-at-append : (xs ys : List ℕ) (n k : ℕ) → length xs ≡ 2 * n → k < n → pointAt (xs ++ ys) k ≡ pointAt xs k
+point-at-append xs ys n k e h = λ i. (List·getD-append xs ys 0 (2 * k) (omega (arith, e)) i, List·getD-append xs ys 0 (2 * k + 1) (omega (arith, e)) i)
 
-second-list : (xs ys : List ℕ) (n k : ℕ) → length xs ≡ 2 * n → pointAt (xs ++ ys) (n + k) ≡ pointAt ys k
-second-list xs ys n k e =
+point-at-append-add : (xs ys : List ℕ) (n k : ℕ) → length xs ≡ 2 * n → pointAt (xs ++ ys) (n + k) ≡ pointAt ys k
+point-at-append-add xs ys n k e =
     let f : 2 * (n + k) ≡ length xs + 2 * k = omega (arith, e) in
     let g : 2 * (n + k) + 1 ≡ length xs + (2 * k + 1) = omega (arith, e) in
     λ i. ((ap (λ (j : ℕ). getD (xs ++ ys) j 0) f ∙ getD-append-add xs ys (2 * k) 0) i, (ap (λ (j : ℕ). getD (xs ++ ys) j 0) g ∙ getD-append-add xs ys (2 * k + 1) 0) i)
@@ -46,7 +46,7 @@ unfolding run multiple
 run-at zero j i base h = absurd (N.not-suc-le-zero h)
 run-at (suc n) j zero base h = ap (λ (k : ℕ). multiple words31 k base) (sym (N.add-zero j))
 run-at (suc n) j (suc i) base h =
-    next-point (multiple words31 j base .0) (multiple words31 j base .1) (run n base (multiple words31 (suc j) base)) i
+    point-at-cons (multiple words31 j base .0) (multiple words31 j base .1) (run n base (multiple words31 (suc j) base)) i
     ∙ run-at n (suc j) i base (N.le-of-suc-le-suc h) ∙ ap (λ (k : ℕ). multiple words31 k base) (N.suc-add j i ∙ sym (N.add-suc j i))
 
 run-start : (n i : ℕ) (base : ℕ × ℕ) → i < n → pointAt (run n base (zeroPoint words31)) i ≡ multiple words31 i base
@@ -61,11 +61,11 @@ window-at zero zero d base l h k = ap (pointAt (run lastDigits base (zeroPoint w
 window-at zero (suc w) d base l h k = absurd (N.not-suc-le-zero l)
 window-at (suc m) zero d base l h k =
     ap (pointAt (run digits base (zeroPoint words31) ++ windowsFrom m (multiple words31 digits base))) (N.zero-add d)
-    ∙ first-list (run digits base (zeroPoint words31)) (windowsFrom m (multiple words31 digits base)) digits d (run-length digits base (zeroPoint words31)) h
+    ∙ point-at-append (run digits base (zeroPoint words31)) (windowsFrom m (multiple words31 digits base)) digits d (run-length digits base (zeroPoint words31)) h
     ∙ run-start digits d base h ∙ ap (λ (n : ℕ). multiple words31 n base) (sym (N.mul-one d))
 window-at (suc m) (suc w) d base l h k =
     ap (pointAt (run digits base (zeroPoint words31) ++ windowsFrom m (multiple words31 digits base))) (past w d)
-    ∙ second-list (run digits base (zeroPoint words31)) (windowsFrom m (multiple words31 digits base)) digits (digits * w + d) (run-length digits base (zeroPoint words31))
+    ∙ point-at-append-add (run digits base (zeroPoint words31)) (windowsFrom m (multiple words31 digits base)) digits (digits * w + d) (run-length digits base (zeroPoint words31))
     ∙ window-at m w d (multiple words31 digits base) (N.le-of-suc-le-suc l) h (λ e. k (ap suc e))
     ∙ sym (multiple-mul words31 m31 m31-representation (d * digits ^ w) digits base)
     ∙ ap (λ (n : ℕ). multiple words31 n base) (N.mul-assoc d (digits ^ w) digits ∙ ap (λ (n : ℕ). d * n) (sym (N.pow-suc digits w)))
@@ -91,11 +91,11 @@ row-at k i h = λ j. (word (2 * i) (2 * (16 * k + i)) (omega arith) (omega arith
 pub row-entry : (w d : ℕ) (row : List ℕ) → row ≡ tableRow ((digits * w + d) / 16) → InTable w d
     → pointAt row ((digits * w + d) % 16) ≡ entry w d
 row-entry w d row e t =
-    ap (λ (t : List ℕ). pointAt t (at % 16)) e ∙ row-at (at / 16) (at % 16) (omega arith) ∙ ap (pointAt tableWords) whole
+    ap (λ (t : List ℕ). pointAt t (at % 16)) e ∙ row-at (at / 16) (at % 16) (omega arith) ∙ ap (pointAt tableWords) div-mod-16
     ∙ table-entry w d t
   where
     at : ℕ
     at = digits * w + d
 
-    whole : 16 * (at / 16) + at % 16 ≡ at
-    whole = omega arith
+    div-mod-16 : 16 * (at / 16) + at % 16 ≡ at
+    div-mod-16 = omega arith

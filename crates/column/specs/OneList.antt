@@ -60,12 +60,12 @@ module _ (O : Ops) (L : Laws O) (n : ℕ) (point : ℕ → O .El × O .El) (tw :
     abbrev pub interpolation : List El → List El
     interpolation v = scaled O s (interpolateBlock O n tv 0 v)
 
-    once : (a : List El) → scaled O s (scaled O (pow O (two O) n) a) ≡ a
-    once a = scaled-scaled O L s (pow O (two O) n) a ∙ ap (λ (x : El). scaled O x a) (L .mul-comm (pow O (two O) n) s ∙ inverse) ∙ scaled-one O L a
+    scaled-back : (a : List El) → scaled O s (scaled O (pow O (two O) n) a) ≡ a
+    scaled-back a = scaled-scaled O L s (pow O (two O) n) a ∙ ap (λ (x : El). scaled O x a) (L .mul-comm (pow O (two O) n) s ∙ inverse) ∙ scaled-one O L a
 
     pub interpolation-values : (c : List El) → length c ≡ 2 ^ n → interpolation (values O n point c) ≡ c
     interpolation-values c e =
-        ap interpolation (sym (evaluate-values c e)) ∙ ap (scaled O s) (interpolate-evaluate O L tw tv n 0 c e inverses) ∙ once c
+        ap interpolation (sym (evaluate-values c e)) ∙ ap (scaled O s) (interpolate-evaluate O L tw tv n 0 c e inverses) ∙ scaled-back c
 
     pub interpolation-length : (v : List El) → length v ≡ 2 ^ n → length (interpolation v) ≡ 2 ^ n
     interpolation-length v e = scaled-length O s (interpolateBlock O n tv 0 v) ∙ interpolate-length O n tv 0 v e
@@ -73,7 +73,7 @@ module _ (O : Ops) (L : Laws O) (n : ℕ) (point : ℕ → O .El × O .El) (tw :
     pub values-interpolation : (v : List El) → length v ≡ 2 ^ n → values O n point (interpolation v) ≡ v
     values-interpolation v e =
         sym (evaluate-values (interpolation v) (interpolation-length v e)) ∙ evaluate-scaled O L n tw 0 s (interpolateBlock O n tv 0 v)
-        ∙ ap (scaled O s) (evaluate-interpolate O L tw tv n 0 v e inverses) ∙ once v
+        ∙ ap (scaled O s) (evaluate-interpolate O L tw tv n 0 v e inverses) ∙ scaled-back v
 
     pub one-list : (v : List El) → length v ≡ 2 ^ n → OneList O n point v
     one-list v e = record {

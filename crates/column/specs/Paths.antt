@@ -72,25 +72,25 @@ module _ (O : Ops) (L : Laws O) where
   unfolding butterflyDifference butterflySum
   difference-sum w u v = ap (_⊕_ u) (sym (R.mul-neg O L v w))
 
-  opened : (w u v : El) → butterflySum O w u v ≡ u ⊕ v ⊗ w
+  butterfly-sum-is : (w u v : El) → butterflySum O w u v ≡ u ⊕ v ⊗ w
   unfolding butterflySum
-  opened w u v = refl
+  butterfly-sum-is w u v = refl
 
   -- the value of a sum of lists is the sum of their values
-  linear : (n : ℕ) (w : El) (f : ℕ → El) (a b : List El) → length a ≡ 2 ^ n → length b ≡ 2 ^ n
+  by-halves-linear : (n : ℕ) (w : El) (f : ℕ → El) (a b : List El) → length a ≡ 2 ^ n → length b ≡ 2 ^ n
       → byHalves O n f (zipWith (butterflySum O w) a b) ≡ butterflySum O w (byHalves O n f a) (byHalves O n f b)
   unfolding byHalves
-  linear zero w f a b ea eb = zip-at 𝟘 (butterflySum O w) a b 0 (eb ∙ sym ea) (omega arith)
-  linear (suc n) w f a b ea eb =
+  by-halves-linear zero w f a b ea eb = zip-at 𝟘 (butterflySum O w) a b 0 (eb ∙ sym ea) (omega arith)
+  by-halves-linear (suc n) w f a b ea eb =
       ap₂ (λ (x y : List El). byHalves O n f x ⊕ byHalves O n f y ⊗ f n)
       (zip-take (butterflySum O w) a b half) (zip-drop (butterflySum O w) a b half (eb ∙ sym ea))
       ∙ ap₂ (λ (x y : El). x ⊕ y ⊗ f n)
-      (linear n w f (take half a) (take half b) (lower-length n a ea) (lower-length n b eb) ∙ opened w (byHalves O n f (take half a)) (byHalves O n f (take half b)))
-      (linear n w f (drop half a) (drop half b) (upper-length n a ea) (upper-length n b eb) ∙ opened w (byHalves O n f (drop half a)) (byHalves O n f (drop half b)))
+      (by-halves-linear n w f (take half a) (take half b) (lower-length n a ea) (lower-length n b eb) ∙ butterfly-sum-is w (byHalves O n f (take half a)) (byHalves O n f (take half b)))
+      (by-halves-linear n w f (drop half a) (drop half b) (upper-length n a ea) (upper-length n b eb) ∙ butterfly-sum-is w (byHalves O n f (drop half a)) (byHalves O n f (drop half b)))
       ∙ solve O L
       (byHalves O n f (take half a) ∷ byHalves O n f (take half b) ∷ byHalves O n f (drop half a) ∷ byHalves O n f (drop half b) ∷ w ∷ f n ∷ [])
       ((v0 :+ v1 :* v4) :+ (v2 :+ v3 :* v4) :* v5) ((v0 :+ v2 :* v5) :+ (v1 :+ v3 :* v5) :* v4) tt
-      ∙ sym (opened w (byHalves O (suc n) f a) (byHalves O (suc n) f b))
+      ∙ sym (butterfly-sum-is w (byHalves O (suc n) f a) (byHalves O (suc n) f b))
     where
       half : ℕ
       half = 2 ^ n
@@ -124,8 +124,8 @@ module _ (O : Ops) (L : Laws O) where
       joined : (v : El) → byHalves O k way (zipWith (butterflySum O v) (take half c) (drop half c))
           ≡ byHalves O k way (take half c) ⊕ byHalves O k way (drop half c) ⊗ v
       joined v =
-          linear k v way (take half c) (drop half c) (lower-length k c e) (upper-length k c e)
-          ∙ opened v (byHalves O k way (take half c)) (byHalves O k way (drop half c))
+          by-halves-linear k v way (take half c) (drop half c) (lower-length k c e) (upper-length k c e)
+          ∙ butterfly-sum-is v (byHalves O k way (take half c)) (byHalves O k way (drop half c))
 
       by : Dec (q < 2 ^ k)
           → ((r : ℕ) → r < 2 ^ k → getD (evaluateBlock O k tw (2 * i) lower) r 𝟘 ≡ byHalves O k (onTheWay O tw (2 * i * 2 ^ k + r)) lower)

@@ -73,17 +73,17 @@ module _ (O : Ops) (L : Laws O) where
     upper-term : getD c (2 ^ n + j) 𝟘 ⊗ product O (suc n) f (2 ^ n + j) ≡ getD (drop (2 ^ n) c) j 𝟘 ⊗ product O n f j ⊗ f n
     unfolding product
     upper-term =
-        ap₂ _⊗_ (sym (getD-drop (2 ^ n) c j 𝟘)) (ap₂ (λ (x : El) (y : ℕ). x ⊗ cond (eqb (y % 2) 1) (f n) 𝟙) low bit)
+        ap₂ _⊗_ (sym (getD-drop (2 ^ n) c j 𝟘)) (ap₂ (λ (x : El) (y : ℕ). x ⊗ cond (eqb (y % 2) 1) (f n) 𝟙) lower-product bit)
         ∙ sym (L .mul-assoc (getD (drop (2 ^ n) c) j 𝟘) (product O n f j) (f n))
       where
-        once : 1 * 2 ^ n + j ≡ 2 ^ n + j
-        once = omega arith
+        one-times : 1 * 2 ^ n + j ≡ 2 ^ n + j
+        one-times = omega arith
 
-        low : product O n f (2 ^ n + j) ≡ product O n f j
-        low = ap (product O n f) (sym once) ∙ product-low O n f 1 j
+        lower-product : product O n f (2 ^ n + j) ≡ product O n f j
+        lower-product = ap (product O n f) (sym one-times) ∙ product-low O n f 1 j
 
         bit : (2 ^ n + j) / 2 ^ n ≡ 1
-        bit = ap (λ (t : ℕ). t / 2 ^ n) (sym once) ∙ W.high 1 n h
+        bit = ap (λ (t : ℕ). t / 2 ^ n) (sym one-times) ∙ W.high 1 n h
 
   pub combination-halves : (n : ℕ) (f : ℕ → El) (c : List El) → combination O n f c ≡ byHalves O n f c
   unfolding combination byHalves sum product

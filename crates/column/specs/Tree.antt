@@ -13,10 +13,10 @@ module _ (O : Ops) (n : ℕ) (tree tw : ℕ → ℕ → O .El) where
   open Ops O using (El)
 
   -- the tree of log size n holds the twiddles tw
-  abbrev pub Holds : Type 0
-  Holds = (t d : ℕ) → t + suc d ≡ n → (i : ℕ) → i < 2 ^ d → tree t (2 ^ d + i) ≡ tw t i
+  abbrev pub HoldsTwiddles : Type 0
+  HoldsTwiddles = (t d : ℕ) → t + suc d ≡ n → (i : ℕ) → i < 2 ^ d → tree t (2 ^ d + i) ≡ tw t i
 
-  module _ (holds : Holds) where
+  module _ (holds : HoldsTwiddles) where
     lower-child : (d i : ℕ) → 2 * (2 ^ d + i) ≡ 2 ^ suc d + 2 * i
     lower-child d i = omega (arith, N.two-pow-succ d)
 

@@ -10,8 +10,8 @@ use Rattle.algebra.specs.Circle.{plus}
 use Rattle.fields.specs.Words.{negP, words31}
 use Rattle.circle.specs.Formulas.{antipode}
 use Rattle.circle.specs.Index.{indexPoint}
-use Rattle.circle.specs.IndexPoints.{index-reduce, index-add, index-quarter, index-turned, index-antipode, index-conjugate}
-use Rattle.orders.specs.BitReverse.{reverseBits, reversed-below, pair-first, pair-second, half-first, half-second, reversed-parts}
+use Rattle.circle.specs.IndexPoints.{index-reduce, index-add, index-quarter, index-add-quarter, index-antipode, index-conjugate}
+use Rattle.orders.specs.BitReverse.{reverseBits, reversed-below, reversed-even, reversed-odd, reversed-first-half, reversed-second-half, reversed-parts}
 use Rattle.orders.specs.Orders.{bitReverseIndex}
 use Rattle.orders.specs.OrderLaws.{index-from-one}
 use Rattle.domains.specs.Listing.{unit, domainIndex}
@@ -38,7 +38,7 @@ module _ (n : ℕ) (lo : 1 ≤ n) (hi : n ≤ 30) where
       place =
           let pair : p ≡ 2 * (p / 2) = omega arith in
           let bits : n ≡ suc (n - 1) = omega arith in
-          index-from-one p n lo ∙ ap₂ reverseBits bits pair ∙ pair-first (n - 1) (p / 2)
+          index-from-one p n lo ∙ ap₂ reverseBits bits pair ∙ reversed-even (n - 1) (p / 2)
 
   pub position-odd : (p : ℕ) → p % 2 ≡ 1 → indexPoint (domainIndex n (bitReverseIndex p n)) ≡ conjugate words31 (halfPoint n (p / 2))
   position-odd p e =
@@ -49,7 +49,7 @@ module _ (n : ℕ) (lo : 1 ≤ n) (hi : n ≤ 30) where
       place =
           let pair : p ≡ 2 * (p / 2) + 1 = omega arith in
           let bits : n ≡ suc (n - 1) = omega arith in
-          index-from-one p n lo ∙ ap₂ reverseBits bits pair ∙ pair-second (n - 1) (p / 2)
+          index-from-one p n lo ∙ ap₂ reverseBits bits pair ∙ reversed-odd (n - 1) (p / 2)
 
 -- ---- neighbours are antipodes, so their x are negatives
 
@@ -61,8 +61,8 @@ module _ (n m : ℕ) (lo : 2 ≤ n) (hi : n ≤ 30) where
         arith,
         unit-half n (omega arith) hi,
         ap (λ (t : ℕ). unit n * t) (two-halves (n - 1) (omega arith) (omega arith)),
-        ap (λ (t : ℕ). unit n * t) (ap (λ (t : ℕ). reverseBits t (2 * m)) bits ∙ pair-first (n - 1 - 1) m),
-        ap (λ (t : ℕ). unit n * t) (ap (λ (t : ℕ). reverseBits t (2 * m + 1)) bits ∙ pair-second (n - 1 - 1) m),
+        ap (λ (t : ℕ). unit n * t) (ap (λ (t : ℕ). reverseBits t (2 * m)) bits ∙ reversed-even (n - 1 - 1) m),
+        ap (λ (t : ℕ). unit n * t) (ap (λ (t : ℕ). reverseBits t (2 * m + 1)) bits ∙ reversed-odd (n - 1 - 1) m),
       )
 
   pub half-neighbour : halfPoint n (2 * m + 1) ≡ antipode words31 (halfPoint n (2 * m))
@@ -74,15 +74,15 @@ module _ (n m : ℕ) (lo : 2 ≤ n) (hi : n ≤ 30) where
 -- ---- 4m + 2 lies a quarter of a turn further than 4m, so its x is the other's y
 
 module _ (n m : ℕ) (lo : 3 ≤ n) (hi : n ≤ 30) where
-  half-index-turned : halfIndex n (4 * m + 2) ≡ halfIndex n (4 * m) + 2 ^ 29
-  half-index-turned =
+  half-index-add-quarter : halfIndex n (4 * m + 2) ≡ halfIndex n (4 * m) + 2 ^ 29
+  half-index-add-quarter =
       omega (
         arith,
         unit-half n (omega arith) hi,
         ap (λ (t : ℕ). unit n * t) (two-halves (n - 1) (omega arith) (omega arith)),
         ap (λ (t : ℕ). unit n * t) (two-halves (n - 1 - 1) (omega arith) (omega arith)),
-        ap (λ (t : ℕ). unit n * t) (reversed (4 * m) (2 * m) even ∙ ap (λ (t : ℕ). reverseBits t (2 * m)) fewer ∙ pair-first (n - 1 - 1 - 1) m),
-        ap (λ (t : ℕ). unit n * t) (reversed (4 * m + 2) (2 * m + 1) odd ∙ ap (λ (t : ℕ). reverseBits t (2 * m + 1)) fewer ∙ pair-second (n - 1 - 1 - 1) m),
+        ap (λ (t : ℕ). unit n * t) (reversed (4 * m) (2 * m) even ∙ ap (λ (t : ℕ). reverseBits t (2 * m)) fewer ∙ reversed-even (n - 1 - 1 - 1) m),
+        ap (λ (t : ℕ). unit n * t) (reversed (4 * m + 2) (2 * m + 1) odd ∙ ap (λ (t : ℕ). reverseBits t (2 * m + 1)) fewer ∙ reversed-odd (n - 1 - 1 - 1) m),
       )
     where
       even : 4 * m ≡ 2 * (2 * m)
@@ -97,17 +97,17 @@ module _ (n m : ℕ) (lo : 3 ≤ n) (hi : n ≤ 30) where
       reversed : (p q : ℕ) → p ≡ 2 * q → reverseBits (n - 1) p ≡ reverseBits (n - 1 - 1) q
       reversed p q e =
           let bits : n - 1 ≡ suc (n - 1 - 1) = omega arith in
-          ap₂ reverseBits bits e ∙ pair-first (n - 1 - 1) q
+          ap₂ reverseBits bits e ∙ reversed-even (n - 1 - 1) q
 
-  pub half-turned : halfPoint n (4 * m + 2) ≡ (halfPoint n (4 * m) .1, negP (halfPoint n (4 * m) .0))
-  half-turned = ap indexPoint half-index-turned ∙ index-turned (halfIndex n (4 * m))
+  pub half-add-quarter : halfPoint n (4 * m + 2) ≡ (halfPoint n (4 * m) .1, negP (halfPoint n (4 * m) .0))
+  half-add-quarter = ap indexPoint half-index-add-quarter ∙ index-add-quarter (halfIndex n (4 * m))
 
 -- ---- the half coset by additions: points 2^s to 2^(s + 1) - 1 lie 2^(30 - s) further than the 2^s before them
 
 reversed-zero : (n : ℕ) → reverseBits n 0 ≡ 0
 unfolding reverseBits
 reversed-zero zero = refl
-reversed-zero (suc n) = pair-first n 0 ∙ reversed-zero n
+reversed-zero (suc n) = reversed-even n 0 ∙ reversed-zero n
 
 -- point 0
 pub half-index-start : (n : ℕ) → halfIndex n 0 ≡ unit n
@@ -119,8 +119,8 @@ module _ (n s k : ℕ) (lo : s + 2 ≤ n) (hi : n ≤ 30) (h : k < 2 ^ s) where
       omega (
         arith,
         distance,
-        ap (λ (t : ℕ). unit n * t) (low-bits (2 ^ s + k) (2 * reverseBits s k + 1) (omega (arith, N.pow-succ' 2 s)) (half-second s k h)),
-        ap (λ (t : ℕ). unit n * t) (low-bits k (2 * reverseBits s k) (omega (arith, N.pow-succ' 2 s)) (half-first s k h)),
+        ap (λ (t : ℕ). unit n * t) (low-bits (2 ^ s + k) (2 * reverseBits s k + 1) (omega (arith, N.pow-succ' 2 s)) (reversed-second-half s k h)),
+        ap (λ (t : ℕ). unit n * t) (low-bits k (2 * reverseBits s k) (omega (arith, N.pow-succ' 2 s)) (reversed-first-half s k h)),
       )
     where
       -- a number of s + 1 bits

@@ -87,20 +87,20 @@ module _ (n : ℕ) (lo : 1 ≤ n) (hi : n ≤ 30) where
   second-index i h =
       ap negIndex (half-index i h) ∙ N.mod-eq-of-lt (omega (arith, half-bound n lo hi i h)) ∙ sym (domain-second n lo hi i h)
 
-  index-is : (i : ℕ) → i < 2 ^ n → domainIndexAt (halfOf n) i ≡ domainIndex n i
+  index-at-domain : (i : ℕ) → i < 2 ^ n → domainIndexAt (halfOf n) i ≡ domainIndex n i
   unfolding halfOf cosetOf
-  index-is i h = elim (decLt i (2 ^ (n - 1))) [
+  index-at-domain i h = elim (decLt i (2 ^ (n - 1))) [
     | yes l ↦ D.index-first (halfOf n) i l ∙ first-index i l
-    | no g ↦ D.index-second (halfOf n) i (omega arith) ∙ second-index (i - 2 ^ (n - 1)) (omega (arith, two-halves n lo hi)) ∙ ap (domainIndex n) (whole g)
+    | no g ↦ D.index-second (halfOf n) i (omega arith) ∙ second-index (i - 2 ^ (n - 1)) (omega (arith, two-halves n lo hi)) ∙ ap (domainIndex n) (half-plus-rest g)
   ]
     where
-      whole : ¬ (i < 2 ^ (n - 1)) → 2 ^ (n - 1) + (i - 2 ^ (n - 1)) ≡ i
-      whole g = omega arith
+      half-plus-rest : ¬ (i < 2 ^ (n - 1)) → 2 ^ (n - 1) + (i - 2 ^ (n - 1)) ≡ i
+      half-plus-rest g = omega arith
 
   -- ---- the iterator's indices
 
-  walk : DomainWalk (halfOf n)
-  walk = domain-walk (halfOf n) half-fits
+  half-walk : DomainWalk (halfOf n)
+  half-walk = domain-walk (halfOf n) half-fits
 
   walked-first : (i : ℕ) → i < 2 ^ (n - 1) → walkedIndex (halfOf n) i ≡ domainIndex n i
   walked-first i h =
@@ -117,38 +117,38 @@ module _ (n : ℕ) (lo : 1 ≤ n) (hi : n ≤ 30) where
       → domainNextAnswer (domainSteps i (domainIteratorOf (halfOf n))) ≡ Next (ofIndex (domainIndex n i)) (domainSteps (suc i) (domainIteratorOf (halfOf n)))
   unfolding halfOf cosetOf
   all-steps i h = elim (decLt i (2 ^ (n - 1))) [
-    | yes l ↦ walk .first i l ∙ ap (λ (t : ℕ). Next (ofIndex t) (domainSteps (suc i) (domainIteratorOf (halfOf n)))) (walked-first i l)
-    | no g ↦ subst (λ (t : ℕ). domainNextAnswer (domainSteps t (domainIteratorOf (halfOf n))) ≡ Next (ofIndex (domainIndex n t)) (domainSteps (suc t) (domainIteratorOf (halfOf n)))) (whole g)
+    | yes l ↦ half-walk .first-half i l ∙ ap (λ (t : ℕ). Next (ofIndex t) (domainSteps (suc i) (domainIteratorOf (halfOf n)))) (walked-first i l)
+    | no g ↦ subst (λ (t : ℕ). domainNextAnswer (domainSteps t (domainIteratorOf (halfOf n))) ≡ Next (ofIndex (domainIndex n t)) (domainSteps (suc t) (domainIteratorOf (halfOf n)))) (half-plus-rest g)
         (later (i - 2 ^ (n - 1)) (omega (arith, two-halves n lo hi)))
   ]
     where
-      whole : ¬ (i < 2 ^ (n - 1)) → 2 ^ (n - 1) + (i - 2 ^ (n - 1)) ≡ i
-      whole g = omega arith
+      half-plus-rest : ¬ (i < 2 ^ (n - 1)) → 2 ^ (n - 1) + (i - 2 ^ (n - 1)) ≡ i
+      half-plus-rest g = omega arith
 
       later : (j : ℕ) → j < 2 ^ (n - 1) → domainNextAnswer (domainSteps (2 ^ (n - 1) + j) (domainIteratorOf (halfOf n)))
           ≡ Next (ofIndex (domainIndex n (2 ^ (n - 1) + j))) (domainSteps (suc (2 ^ (n - 1) + j)) (domainIteratorOf (halfOf n)))
-      later j l = walk .second j l ∙ ap (λ (t : ℕ). Next (ofIndex t) (domainSteps (suc (2 ^ (n - 1) + j)) (domainIteratorOf (halfOf n)))) (walked-second j l)
+      later j l = half-walk .second-half j l ∙ ap (λ (t : ℕ). Next (ofIndex t) (domainSteps (suc (2 ^ (n - 1) + j)) (domainIteratorOf (halfOf n)))) (walked-second j l)
 
   all-done : (i : ℕ) → 2 ^ n ≤ i → domainNextAnswer (domainSteps i (domainIteratorOf (halfOf n))) ≡ Done (domainSteps (suc i) (domainIteratorOf (halfOf n)))
   unfolding halfOf cosetOf
-  all-done i h = walk .done i (omega (arith, two-halves n lo hi))
+  all-done i h = half-walk .done i (omega (arith, two-halves n lo hi))
 
   -- ---- the calls
 
-  made : tryNewAnswer n ≡ CA.Value (canonicOf n)
+  coset-made : tryNewAnswer n ≡ CA.Value (canonicOf n)
   unfolding tryNewAnswer
-  made = rw (log-size-passes n lo hi)
+  coset-made = rw (log-size-passes n lo hi)
 
-  made-domain : circleDomainAnswer (canonicOf n) ≡ DA.Value (ofHalf (halfOf n))
+  domain-made : circleDomainAnswer (canonicOf n) ≡ DA.Value (ofHalf (halfOf n))
   unfolding circleDomainAnswer canonicOf cosetOf
-  made-domain = hold-passes (checkCanonic (canonicOf n)) DA.Refused (DA.Value (ofHalf (halfOf n))) canonic-passes
+  domain-made = hold-passes (checkCanonic (canonicOf n)) DA.Refused (DA.Value (ofHalf (halfOf n))) canonic-passes
 
   coset-index : (k : ℕ) → C.indexAtAnswer (canonicOf n) k ≡ I.Value (ofIndex (cosetIndex n k))
   unfolding C.indexAtAnswer canonicOf cosetOf indexAt
-  coset-index k = hold-passes (checkCanonic (canonicOf n)) I.Refused _ canonic-passes ∙ ap (λ (t : ℕ). I.Value (ofIndex (t % 2 ^ 31))) same
+  coset-index k = hold-passes (checkCanonic (canonicOf n)) I.Refused _ canonic-passes ∙ ap (λ (t : ℕ). I.Value (ofIndex (t % 2 ^ 31))) initial-plus-steps
     where
-      same : 2 ^ (31 - (n + 1)) + 2 ^ (31 - n) * k ≡ unit n * (2 * k + 1)
-      same =
+      initial-plus-steps : 2 ^ (31 - (n + 1)) + 2 ^ (31 - n) * k ≡ unit n * (2 * k + 1)
+      initial-plus-steps =
           let initial : 31 - (n + 1) ≡ 30 - n = omega arith in
           let step : 31 - n ≡ suc (30 - n) = omega arith in
           ap₂ (λ (s t : ℕ). 2 ^ s + 2 ^ t * k) initial step ∙ omega (arith, ap (λ (t : ℕ). t * k) (N.pow-succ' 2 (30 - n)))
@@ -161,12 +161,12 @@ module _ (n : ℕ) (lo : 1 ≤ n) (hi : n ≤ 30) where
 
   index-answer : (i : ℕ) → i < 2 ^ n → indexAtAnswer (ofHalf (halfOf n)) i ≡ I.Value (ofIndex (domainIndex n i))
   unfolding indexAtAnswer
-  index-answer i h = hold-passes (check (halfOf n)) I.Refused _ half-passes ∙ ap (λ (t : ℕ). I.Value (ofIndex t)) (index-is i h)
+  index-answer i h = hold-passes (check (halfOf n)) I.Refused _ half-passes ∙ ap (λ (t : ℕ). I.Value (ofIndex t)) (index-at-domain i h)
 
   point-answer : (i : ℕ) → i < 2 ^ n → atAnswer (ofHalf (halfOf n)) i ≡ P.Value (ofPoint (indexPoint (domainIndex n i)))
   unfolding atAnswer
   point-answer i h = hold-passes (check (halfOf n)) P.Refused _ half-passes
-      ∙ ap (λ (t : ℕ). P.Value (ofPoint (indexPoint t))) (index-is i h)
+      ∙ ap (λ (t : ℕ). P.Value (ofPoint (indexPoint t))) (index-at-domain i h)
 
   iterator-answer : iterIndicesAnswer (ofHalf (halfOf n)) ≡ T.Value (domainIteratorOf (halfOf n))
   unfolding iterIndicesAnswer
@@ -174,8 +174,8 @@ module _ (n : ℕ) (lo : 1 ≤ n) (hi : n ≤ 30) where
 
 pub canonic-domain : (n : ℕ) → 1 ≤ n → n ≤ 30 → CanonicDomain n
 canonic-domain n lo hi = record {
-  coset = made n lo hi;
-  domain = made-domain n lo hi;
+  coset = coset-made n lo hi;
+  domain = domain-made n lo hi;
   cosetIndices = coset-index n lo hi;
   size = domain-size n lo hi;
   indices = index-answer n lo hi;

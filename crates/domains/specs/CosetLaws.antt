@@ -83,11 +83,11 @@ made-fits k n h l = record {
 -- ---- the conjugate
 
 -- an index and its negative make whole turns
-opposite : (k : ℕ) → IsIndex (ofIndex k) → k + negIndex k ≡ 2 ^ 31 * ((k + negIndex k) / 2 ^ 31)
-opposite k h = omega arith
+opposite-sum : (k : ℕ) → IsIndex (ofIndex k) → k + negIndex k ≡ 2 ^ 31 * ((k + negIndex k) / 2 ^ 31)
+opposite-sum k h = omega arith
 
-whole-turns : (x y turns : ℕ) → x + y ≡ 2 ^ 31 * turns → y % 2 ^ 31 ≡ negIndex (x % 2 ^ 31)
-whole-turns x y turns e = omega arith
+opposite-mod : (x y turns : ℕ) → x + y ≡ 2 ^ 31 * turns → y % 2 ^ 31 ≡ negIndex (x % 2 ^ 31)
+opposite-mod x y turns e = omega arith
 
 pub neg-index : (k : ℕ) → IsIndex (ofIndex (negIndex k))
 neg-index k = omega arith
@@ -105,8 +105,8 @@ conjugate-fits c h = record {
 pub conjugate-index : (c : Coset) (i : ℕ) → Fits c → indexAt (conjugated c) i ≡ negIndex (indexAt c i)
 unfolding indexAt conjugated
 conjugate-index c i f =
-    whole-turns (k + s * i) (negIndex k + negIndex s * i) (turns k + turns s * i)
-    (sum (opposite k (f .initialIndexFits)) (opposite s (f .stepSizeFits)))
+    opposite-mod (k + s * i) (negIndex k + negIndex s * i) (turns k + turns s * i)
+    (opposite-indices-sum (opposite-sum k (f .initialIndexFits)) (opposite-sum s (f .stepSizeFits)))
   where
     k : ℕ
     k = c .«initial_index» .0
@@ -117,5 +117,5 @@ conjugate-index c i f =
     turns : ℕ → ℕ
     turns j = (j + negIndex j) / 2 ^ 31
 
-    sum : k + negIndex k ≡ 2 ^ 31 * turns k → s + negIndex s ≡ 2 ^ 31 * turns s → k + s * i + (negIndex k + negIndex s * i) ≡ 2 ^ 31 * (turns k + turns s * i)
-    sum e f = omega (arith, ap (λ (t : ℕ). t * i) f)
+    opposite-indices-sum : k + negIndex k ≡ 2 ^ 31 * turns k → s + negIndex s ≡ 2 ^ 31 * turns s → k + s * i + (negIndex k + negIndex s * i) ≡ 2 ^ 31 * (turns k + turns s * i)
+    opposite-indices-sum e f = omega (arith, ap (λ (t : ℕ). t * i) f)

@@ -16,7 +16,7 @@ use Rattle.algebra.specs.CircleHomomorphism.{to-doubleX}
 use Rattle.fields.specs.Words.{negP, mulP, words31}
 use Rattle.fields.specs.Elements.{element-homomorphism}
 use Rattle.fields.specs.Representation.{solveWords}
-use Rattle.fields.specs.Inverse.{m31-representation, minus-one}
+use Rattle.fields.specs.Inverse.{m31-representation, element-minus-one}
 use Rattle.circle.specs.Index.{indexPoint}
 use Rattle.circle.specs.IndexPoints.{index-below, index-on, index-double, index-y-zero, index-x-zero}
 use Rattle.circle.specs.LogOrder.{doubled-x}
@@ -28,16 +28,16 @@ use Rattle.domains.specs.BitReversed.{halfIndex, halfPoint, half-element
 
 -- each point of the domain of log size n is the double of two of log size n + 1, for n from 1 to 29
 pub record DomainDoubled (n : ℕ) : Type 0 where
-  pub first : (i : ℕ) → i < 2 ^ (n - 1) → double words31 (indexPoint (domainIndex (suc n) i)) ≡ indexPoint (domainIndex n i)
-  pub first-again : (i : ℕ) → i < 2 ^ (n - 1) → double words31 (indexPoint (domainIndex (suc n) (2 ^ (n - 1) + i))) ≡ indexPoint (domainIndex n i)
-  pub second : (i : ℕ) → i < 2 ^ (n - 1) → double words31 (indexPoint (domainIndex (suc n) (2 ^ n + i))) ≡ indexPoint (domainIndex n (2 ^ (n - 1) + i))
-  pub second-again : (i : ℕ) → i < 2 ^ (n - 1)
+  pub first-quarter : (i : ℕ) → i < 2 ^ (n - 1) → double words31 (indexPoint (domainIndex (suc n) i)) ≡ indexPoint (domainIndex n i)
+  pub second-quarter : (i : ℕ) → i < 2 ^ (n - 1) → double words31 (indexPoint (domainIndex (suc n) (2 ^ (n - 1) + i))) ≡ indexPoint (domainIndex n i)
+  pub third-quarter : (i : ℕ) → i < 2 ^ (n - 1) → double words31 (indexPoint (domainIndex (suc n) (2 ^ n + i))) ≡ indexPoint (domainIndex n (2 ^ (n - 1) + i))
+  pub fourth-quarter : (i : ℕ) → i < 2 ^ (n - 1)
       → double words31 (indexPoint (domainIndex (suc n) (2 ^ n + (2 ^ (n - 1) + i)))) ≡ indexPoint (domainIndex n (2 ^ (n - 1) + i))
 
 module _ (n : ℕ) (lo : 1 ≤ n) (hi : n ≤ 29) where
   -- twice the indices of the half coset's elements i and 2^(n - 1) + i
-  twice : (c i : ℕ) → 2 * (unit (suc n) + 4 * unit (suc n) * (c * 2 ^ (n - 1) + i)) ≡ unit n + 4 * unit n * i + c * 2 ^ 31
-  twice c i = shape (unit n) (unit (suc n)) (2 ^ (n - 1)) (unit-half n lo (omega arith)) units
+  twice-index : (c i : ℕ) → 2 * (unit (suc n) + 4 * unit (suc n) * (c * 2 ^ (n - 1) + i)) ≡ unit n + 4 * unit n * i + c * 2 ^ 31
+  twice-index c i = shape (unit n) (unit (suc n)) (2 ^ (n - 1)) (unit-half n lo (omega arith)) units
     where
       units : unit n ≡ 2 * unit (suc n)
       units =
@@ -47,37 +47,37 @@ module _ (n : ℕ) (lo : 1 ≤ n) (hi : n ≤ 29) where
       shape : (u v h : ℕ) → u * h ≡ 2 ^ 29 → u ≡ 2 * v → 2 * (v + 4 * v * (c * h + i)) ≡ u + 4 * u * i + c * 2 ^ 31
       shape u v h e f = omega (arith, ap (λ (t : ℕ). t * c) e, ap (λ (t : ℕ). t * h * c) f, ap (λ (t : ℕ). t * i) f)
 
-  less : suc n - 1 ≡ n
-  less = omega arith
+  suc-minus-one : suc n - 1 ≡ n
+  suc-minus-one = omega arith
 
-  first-half : (c i j : ℕ) → i < 2 ^ (n - 1) → j < 2 ^ n → j ≡ c * 2 ^ (n - 1) + i
+  first-half-doubles : (c i j : ℕ) → i < 2 ^ (n - 1) → j < 2 ^ n → j ≡ c * 2 ^ (n - 1) + i
       → double words31 (indexPoint (domainIndex (suc n) j)) ≡ indexPoint (domainIndex n i)
-  first-half c i j h b e =
+  first-half-doubles c i j h b e =
       index-double (domainIndex (suc n) j) (domainIndex n i) c
-      (ap (λ (t : ℕ). 2 * t) (domain-first (suc n) (omega arith) (omega arith) j (rw less b) ∙ ap (λ (t : ℕ). unit (suc n) + 4 * unit (suc n) * t) e)
-      ∙ twice c i ∙ ap (λ (t : ℕ). t + c * 2 ^ 31) (sym (domain-first n lo (omega arith) i h)))
+      (ap (λ (t : ℕ). 2 * t) (domain-first (suc n) (omega arith) (omega arith) j (rw suc-minus-one b) ∙ ap (λ (t : ℕ). unit (suc n) + 4 * unit (suc n) * t) e)
+      ∙ twice-index c i ∙ ap (λ (t : ℕ). t + c * 2 ^ 31) (sym (domain-first n lo (omega arith) i h)))
 
-  second-half : (c i j : ℕ) → c ≤ 1 → i < 2 ^ (n - 1) → j < 2 ^ n → j ≡ c * 2 ^ (n - 1) + i
+  second-half-doubles : (c i j : ℕ) → c ≤ 1 → i < 2 ^ (n - 1) → j < 2 ^ n → j ≡ c * 2 ^ (n - 1) + i
       → double words31 (indexPoint (domainIndex (suc n) (2 ^ n + j))) ≡ indexPoint (domainIndex n (2 ^ (n - 1) + i))
-  second-half c i j a h b e =
+  second-half-doubles c i j a h b e =
       index-double (domainIndex (suc n) (2 ^ n + j)) (domainIndex n (2 ^ (n - 1) + i)) (1 - c)
       (omega (
         arith,
-        rw less at (domain-second (suc n) (omega arith) (omega arith) j (rw less b)),
+        rw suc-minus-one at (domain-second (suc n) (omega arith) (omega arith) j (rw suc-minus-one b)),
         domain-second n lo (omega arith) i h,
         half-bound n lo (omega arith) i h,
         ap (λ (t : ℕ). unit (suc n) * t) e,
-        twice c i,
+        twice-index c i,
       ))
 
   pub domain-doubled : DomainDoubled n
   domain-doubled =
       let two : 2 ^ n ≡ 2 * 2 ^ (n - 1) = two-halves n lo (omega arith) in
       record {
-        first = λ i h. first-half 0 i i h (omega arith) (omega arith);
-        first-again = λ i h. first-half 1 i (2 ^ (n - 1) + i) h (omega arith) (omega arith);
-        second = λ i h. second-half 0 i i (omega arith) h (omega arith) (omega arith);
-        second-again = λ i h. second-half 1 i (2 ^ (n - 1) + i) (omega arith) h (omega arith) (omega arith);
+        first-quarter = λ i h. first-half-doubles 0 i i h (omega arith) (omega arith);
+        second-quarter = λ i h. first-half-doubles 1 i (2 ^ (n - 1) + i) h (omega arith) (omega arith);
+        third-quarter = λ i h. second-half-doubles 0 i i (omega arith) h (omega arith) (omega arith);
+        fourth-quarter = λ i h. second-half-doubles 1 i (2 ^ (n - 1) + i) (omega arith) h (omega arith) (omega arith);
       }
 
   -- point k of the half coset in bit-reversed order doubles to point k / 2
@@ -85,7 +85,7 @@ module _ (n : ℕ) (lo : 1 ≤ n) (hi : n ≤ 29) where
   unfolding reverseBits
   half-double k =
       index-double (halfIndex (suc n) k) (halfIndex n (k / 2)) (k % 2)
-      (ap (λ (t : ℕ). 2 * (unit (suc n) + 4 * unit (suc n) * reverseBits t k)) bits ∙ twice (k % 2) (reverseBits (n - 1) (k / 2)))
+      (ap (λ (t : ℕ). 2 * (unit (suc n) + 4 * unit (suc n) * reverseBits t k)) bits ∙ twice-index (k % 2) (reverseBits (n - 1) (k / 2)))
     where
       bits : suc n - 1 ≡ suc (n - 1)
       bits = omega arith
@@ -124,7 +124,7 @@ half-two k =
     xy-minus : m31 .mul (two m31) (m31 .mul (element x) (element y)) ≡ m31 .neg (m31 .one)
     xy-minus =
         ap₂ (m31 .mul) (sym (element-homomorphism .to-add 1 1)) (sym (element-homomorphism .to-mul x y)) ∙ sym (element-homomorphism .to-mul 2 (mulP x y))
-        ∙ ap element (half-double-y 1 (omega arith) (omega arith) k ∙ ap (λ (p : ℕ × ℕ). p .1) (half-point-one (k / 2))) ∙ minus-one
+        ∙ ap element (half-double-y 1 (omega arith) (omega arith) k ∙ ap (λ (p : ℕ × ℕ). p .1) (half-point-one (k / 2))) ∙ element-minus-one
 
 -- ---- y = 0 holds at no point of a domain, and x = 0 only at those of log size 1
 
@@ -143,12 +143,12 @@ module _ (n : ℕ) (lo : 1 ≤ n) (hi : n ≤ 30) where
   pub domain-x-nonzero : 2 ≤ n → (i : ℕ) → i < 2 ^ n → ¬ (indexPoint (domainIndex n i) .0 ≡ 0)
   domain-x-nonzero more i h e = let b = domain-bound n lo hi i h in neither (index-x-zero (domainIndex n i) (b .0) (b .1) e)
     where
-      power : 2 ^ (n - 1) ≡ 2 * 2 ^ (n - 1 - 1)
-      power = two-halves (n - 1) (omega arith) (omega arith)
+      half-is-two-quarters : 2 ^ (n - 1) ≡ 2 * 2 ^ (n - 1 - 1)
+      half-is-two-quarters = two-halves (n - 1) (omega arith) (omega arith)
 
       neither : (domainIndex n i ≡ 2 ^ 29) ⊎ (domainIndex n i ≡ 3 * 2 ^ 29) → ⊥
-      neither (inl w) = omega (arith, cofactor i 1 h w ∙ ap (λ (t : ℕ). t * 1) power)
-      neither (inr w) = omega (arith, cofactor i 3 h w ∙ ap (λ (t : ℕ). t * 3) power)
+      neither (inl w) = omega (arith, cofactor i 1 h w ∙ ap (λ (t : ℕ). t * 1) half-is-two-quarters)
+      neither (inr w) = omega (arith, cofactor i 3 h w ∙ ap (λ (t : ℕ). t * 3) half-is-two-quarters)
 
   half-below : (k : ℕ) → reverseBits (n - 1) k < 2 ^ n
   half-below k = omega (arith, reversed-below (n - 1) k, two-halves n lo hi)

@@ -59,9 +59,9 @@ pub record CosetWalk (c : Coset) : Type 0 where
 
 -- of a domain whose half coset fits: `domain-walk`
 pub record DomainWalk (c : Coset) : Type 0 where
-  pub first : (k : ℕ) → k < 2 ^ c .«log_size»
+  pub first-half : (k : ℕ) → k < 2 ^ c .«log_size»
       → domainNextAnswer (domainSteps k (domainIteratorOf c)) ≡ D.Next (ofIndex (walkedIndex c k)) (domainSteps (suc k) (domainIteratorOf c))
-  pub second : (k : ℕ) → k < 2 ^ c .«log_size»
+  pub second-half : (k : ℕ) → k < 2 ^ c .«log_size»
       → domainNextAnswer (domainSteps (2 ^ c .«log_size» + k) (domainIteratorOf c))
       ≡ D.Next (ofIndex (walkedIndex (conjugated c) k)) (domainSteps (suc (2 ^ c .«log_size» + k)) (domainIteratorOf c))
   pub done : (k : ℕ) → 2 * 2 ^ c .«log_size» ≤ k → domainNextAnswer (domainSteps k (domainIteratorOf c)) ≡ D.Done (domainSteps (suc k) (domainIteratorOf c))
@@ -69,15 +69,15 @@ pub record DomainWalk (c : Coset) : Type 0 where
 -- ---- a walk through known states
 
 module _ {S : Type 0} (f : S → S) (at : ℕ → S) (size : ℕ) (next : (k : ℕ) → k < size → f (at k) ≡ at (suc k)) where
-  walked : (k : ℕ) → k ≤ size → iterate k f (at 0) ≡ at k
+  iterate-walked : (k : ℕ) → k ≤ size → iterate k f (at 0) ≡ at k
   unfolding iterate
-  walked zero h = refl
-  walked (suc k) h = iterate-suc k f (at 0) ∙ ap f (walked k (omega arith)) ∙ next k (omega arith)
+  iterate-walked zero h = refl
+  iterate-walked (suc k) h = iterate-suc k f (at 0) ∙ ap f (iterate-walked k (omega arith)) ∙ next k (omega arith)
 
-  ended : f (at size) ≡ at size → (k : ℕ) → iterate (size + k) f (at 0) ≡ at size
+  iterate-ended : f (at size) ≡ at size → (k : ℕ) → iterate (size + k) f (at 0) ≡ at size
   unfolding iterate
-  ended e zero = ap (λ (t : ℕ). iterate t f (at 0)) (N.add-zero size) ∙ walked size (omega arith)
-  ended e (suc k) = ap (λ (t : ℕ). iterate t f (at 0)) (N.add-suc size k) ∙ iterate-suc (size + k) f (at 0) ∙ ap f (ended e k) ∙ e
+  iterate-ended e zero = ap (λ (t : ℕ). iterate t f (at 0)) (N.add-zero size) ∙ iterate-walked size (omega arith)
+  iterate-ended e (suc k) = ap (λ (t : ℕ). iterate t f (at 0)) (N.add-suc size k) ∙ iterate-suc (size + k) f (at 0) ∙ ap f (iterate-ended e k) ∙ e
 
 -- ---- the coset's iterator
 
@@ -85,9 +85,9 @@ module _ {S : Type 0} (f : S → S) (at : ℕ → S) (size : ℕ) (next : (k : �
 unfoldable stateAt : Coset → ℕ → CosetIterator
 stateAt c k = record { cur = ofIndex (walkedIndex c k); step = c .«step_size»; remaining = 2 ^ c .«log_size» - k }
 
-current : (c : Coset) (k : ℕ) → stateAt c k .cur ≡ ofIndex (walkedIndex c k)
+state-index : (c : Coset) (k : ℕ) → stateAt c k .cur ≡ ofIndex (walkedIndex c k)
 unfolding stateAt
-current c k = refl
+state-index c k = refl
 
 module _ (c : Coset) (f : Fits c) where
   walked-most : (k : ℕ) → IsIndex (ofIndex (walkedIndex c k))
@@ -95,9 +95,9 @@ module _ (c : Coset) (f : Fits c) where
   walked-most zero = f .initialIndexFits
   walked-most (suc k) = omega arith
 
-  start : iteratorOf c ≡ stateAt c 0
+  iterator-start : iteratorOf c ≡ stateAt c 0
   unfolding stateAt walkedIndex iteratorOf
-  start = λ i. record { cur = ofIndex (c .«initial_index» .0); step = c .«step_size»; remaining = sym (N.sub-zero (2 ^ c .«log_size»)) i }
+  iterator-start = λ i. record { cur = ofIndex (c .«initial_index» .0); step = c .«step_size»; remaining = sym (N.sub-zero (2 ^ c .«log_size»)) i }
 
   state-holds : (k : ℕ) → Hold (check (stateAt c k))
   unfolding check stateAt
@@ -105,16 +105,16 @@ module _ (c : Coset) (f : Fits c) where
       hold-both (inRange (ofIndex (walkedIndex c k))) (inRange (c .«step_size»))
       (index-passes (ofIndex (walkedIndex c k)) (walked-most k), tt) (index-passes (c .«step_size») (f .stepSizeFits), tt)
 
-  further : (k : ℕ) → (walkedIndex c k + c .«step_size» .0) % 2 ^ 31 ≡ walkedIndex c (suc k)
+  walked-next : (k : ℕ) → (walkedIndex c k + c .«step_size» .0) % 2 ^ 31 ≡ walkedIndex c (suc k)
   unfolding walkedIndex indexAt
-  further zero = omega arith
-  further (suc k) = omega arith
+  walked-next zero = omega arith
+  walked-next (suc k) = omega arith
 
   state-next : (k : ℕ) → k < 2 ^ c .«log_size» → advanced (stateAt c k) ≡ stateAt c (suc k)
   unfolding advanced stateAt
   state-next k h =
       let fewer : 2 ^ c .«log_size» - k - 1 ≡ 2 ^ c .«log_size» - suc k = omega arith in
-      λ i. record { cur = ofIndex (further k i); step = c .«step_size»; remaining = fewer i }
+      λ i. record { cur = ofIndex (walked-next k i); step = c .«step_size»; remaining = fewer i }
 
   some-left : (k : ℕ) → k < 2 ^ c .«log_size» → eqb (stateAt c k .remaining) 0 ≡ false
   unfolding stateAt
@@ -127,7 +127,7 @@ module _ (c : Coset) (f : Fits c) where
   state-step : (k : ℕ) → k < 2 ^ c .«log_size» → nextAnswer (stateAt c k) ≡ Next (ofIndex (walkedIndex c k)) (stateAt c (suc k))
   unfolding nextAnswer
   state-step k h =
-      hold-passes (check (stateAt c k)) Refused _ (state-holds k) ∙ rw (some-left k h) (λ i. Next (current c k i) (state-next k h i))
+      hold-passes (check (stateAt c k)) Refused _ (state-holds k) ∙ rw (some-left k h) (λ i. Next (state-index c k i) (state-next k h i))
 
   state-done : nextAnswer (stateAt c (2 ^ c .«log_size»)) ≡ Done (stateAt c (2 ^ c .«log_size»))
   unfolding nextAnswer
@@ -142,12 +142,12 @@ module _ (c : Coset) (f : Fits c) where
   state-stays = ap (after (stateAt c (2 ^ c .«log_size»))) state-done
 
   steps-state : (k : ℕ) → k ≤ 2 ^ c .«log_size» → steps k (iteratorOf c) ≡ stateAt c k
-  steps-state k h = ap (steps k) start ∙ walked (λ it. after it (nextAnswer it)) (stateAt c) (2 ^ c .«log_size») state-after k h
+  steps-state k h = ap (steps k) iterator-start ∙ iterate-walked (λ it. after it (nextAnswer it)) (stateAt c) (2 ^ c .«log_size») state-after k h
 
   steps-ended : (k : ℕ) → 2 ^ c .«log_size» ≤ k → steps k (iteratorOf c) ≡ stateAt c (2 ^ c .«log_size»)
   steps-ended k h =
       let more : k ≡ 2 ^ c .«log_size» + (k - 2 ^ c .«log_size») = omega arith in
-      ap₂ steps more start ∙ ended (λ it. after it (nextAnswer it)) (stateAt c) (2 ^ c .«log_size») state-after state-stays (k - 2 ^ c .«log_size»)
+      ap₂ steps more iterator-start ∙ iterate-ended (λ it. after it (nextAnswer it)) (stateAt c) (2 ^ c .«log_size») state-after state-stays (k - 2 ^ c .«log_size»)
 
   pub coset-walk : CosetWalk c
   coset-walk = record {
@@ -182,14 +182,14 @@ module _ (c : Coset) (f : Fits c) where
   unfolding domainNextAnswer walkedIndex
   first-step k h =
       hold-passes (checkBoth (firstAt k)) D.Refused _ (both-hold k 0)
-      ∙ rw (some-left c f k h) (λ i. D.Next (current c k i) (pair (state-next c f k h i) (stateAt (conjugated c) 0)))
+      ∙ rw (some-left c f k h) (λ i. D.Next (state-index c k i) (pair (state-next c f k h i) (stateAt (conjugated c) 0)))
 
   second-step : (k : ℕ) → k < 2 ^ c .«log_size» → domainNextAnswer (secondAt k) ≡ D.Next (ofIndex (walkedIndex (conjugated c) k)) (secondAt (suc k))
   unfolding domainNextAnswer conjugated walkedIndex
   second-step k h =
       hold-passes (checkBoth (secondAt k)) D.Refused _ (both-hold (2 ^ c .«log_size») k)
       ∙ rw (none-left c f, some-left (conjugated c) g k h)
-      (λ i. D.Next (current (conjugated c) k i) (pair (stateAt c (2 ^ c .«log_size»)) (state-next (conjugated c) g k h i)))
+      (λ i. D.Next (state-index (conjugated c) k i) (pair (stateAt c (2 ^ c .«log_size»)) (state-next (conjugated c) g k h i)))
 
   last-step : domainNextAnswer (secondAt (2 ^ c .«log_size»)) ≡ D.Done (secondAt (2 ^ c .«log_size»))
   unfolding domainNextAnswer conjugated
@@ -209,30 +209,30 @@ module _ (c : Coset) (f : Fits c) where
   unfolding domainAfter
   last-move = ap (domainAfter (secondAt (2 ^ c .«log_size»))) last-step
 
-  begin : domainIteratorOf c ≡ firstAt 0
+  domain-iterator-start : domainIteratorOf c ≡ firstAt 0
   unfolding domainIteratorOf
-  begin = ap₂ pair (start c f) (start (conjugated c) g)
+  domain-iterator-start = ap₂ pair (iterator-start c f) (iterator-start (conjugated c) g)
 
   first-steps : (k : ℕ) → k ≤ 2 ^ c .«log_size» → domainSteps k (domainIteratorOf c) ≡ firstAt k
-  first-steps k h = ap (domainSteps k) begin ∙ walked move firstAt (2 ^ c .«log_size») first-move k h
+  first-steps k h = ap (domainSteps k) domain-iterator-start ∙ iterate-walked move firstAt (2 ^ c .«log_size») first-move k h
 
   -- the first half is walked through
-  half-way : (k : ℕ) → domainSteps (2 ^ c .«log_size» + k) (domainIteratorOf c) ≡ domainSteps k (secondAt 0)
-  half-way k = iterate-add (2 ^ c .«log_size») k move (domainIteratorOf c) ∙ ap (domainSteps k) (first-steps (2 ^ c .«log_size») (omega arith))
+  steps-past-half : (k : ℕ) → domainSteps (2 ^ c .«log_size» + k) (domainIteratorOf c) ≡ domainSteps k (secondAt 0)
+  steps-past-half k = iterate-add (2 ^ c .«log_size») k move (domainIteratorOf c) ∙ ap (domainSteps k) (first-steps (2 ^ c .«log_size») (omega arith))
 
   second-steps : (k : ℕ) → k ≤ 2 ^ c .«log_size» → domainSteps (2 ^ c .«log_size» + k) (domainIteratorOf c) ≡ secondAt k
-  second-steps k h = half-way k ∙ walked move secondAt (2 ^ c .«log_size») second-move k h
+  second-steps k h = steps-past-half k ∙ iterate-walked move secondAt (2 ^ c .«log_size») second-move k h
 
   all-steps : (k : ℕ) → 2 * 2 ^ c .«log_size» ≤ k → domainSteps k (domainIteratorOf c) ≡ secondAt (2 ^ c .«log_size»)
   all-steps k h =
       let more : k ≡ 2 ^ c .«log_size» + (2 ^ c .«log_size» + (k - 2 * 2 ^ c .«log_size»)) = omega arith in
-      ap (λ (t : ℕ). domainSteps t (domainIteratorOf c)) more ∙ half-way (2 ^ c .«log_size» + (k - 2 * 2 ^ c .«log_size»))
-      ∙ ended move secondAt (2 ^ c .«log_size») second-move last-move (k - 2 * 2 ^ c .«log_size»)
+      ap (λ (t : ℕ). domainSteps t (domainIteratorOf c)) more ∙ steps-past-half (2 ^ c .«log_size» + (k - 2 * 2 ^ c .«log_size»))
+      ∙ iterate-ended move secondAt (2 ^ c .«log_size») second-move last-move (k - 2 * 2 ^ c .«log_size»)
 
   pub domain-walk : DomainWalk c
   domain-walk = record {
-    first = λ k h. ap domainNextAnswer (first-steps k (omega arith)) ∙ first-step k h ∙ ap (D.Next (ofIndex (walkedIndex c k))) (sym (first-steps (suc k) h));
-    second = λ k h. ap domainNextAnswer (second-steps k (omega arith)) ∙ second-step k h
+    first-half = λ k h. ap domainNextAnswer (first-steps k (omega arith)) ∙ first-step k h ∙ ap (D.Next (ofIndex (walkedIndex c k))) (sym (first-steps (suc k) h));
+    second-half = λ k h. ap domainNextAnswer (second-steps k (omega arith)) ∙ second-step k h
         ∙ ap (D.Next (ofIndex (walkedIndex (conjugated c) k)))
         (sym (ap (λ (t : ℕ). domainSteps t (domainIteratorOf c)) (sym (N.add-suc (2 ^ c .«log_size») k)) ∙ second-steps (suc k) h));
     done = λ k h. ap domainNextAnswer (all-steps k h) ∙ last-step ∙ ap D.Done (sym (all-steps (suc k) (omega arith)));

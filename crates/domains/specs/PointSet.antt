@@ -31,8 +31,8 @@ use Rattle.domains.specs.Listing.{unit, cosetIndex, halfIndices, domainI
 pub record PointSet (n : ℕ) : Type 0 where
   -- 2^n indices: h + 4hi, then their negatives in the same order
   pub size : length (domainIndices n) ≡ 2 ^ n
-  pub first : (i : ℕ) → i < 2 ^ (n - 1) → domainIndex n i ≡ unit n + 4 * unit n * i
-  pub second : (i : ℕ) → i < 2 ^ (n - 1) → domainIndex n (2 ^ (n - 1) + i) ≡ negIndex (unit n + 4 * unit n * i)
+  pub first-half : (i : ℕ) → i < 2 ^ (n - 1) → domainIndex n i ≡ unit n + 4 * unit n * i
+  pub second-half : (i : ℕ) → i < 2 ^ (n - 1) → domainIndex n (2 ^ (n - 1) + i) ≡ negIndex (unit n + 4 * unit n * i)
   -- their points are pairs of words below P
   pub below : (i : ℕ) → i < 2 ^ n → (indexPoint (domainIndex n i) .0 < P) × (indexPoint (domainIndex n i) .1 < P)
   -- their points are all different
@@ -49,8 +49,8 @@ module _ (n : ℕ) (lo : 1 ≤ n) (hi : n ≤ 30) where
 
   pub unit-half : unit n * 2 ^ (n - 1) ≡ 2 ^ 29
   unit-half =
-      let sum : 30 - n + (n - 1) ≡ 29 = omega arith in
-      sym (W.pow-add 2 (30 - n) (n - 1)) ∙ ap (λ (t : ℕ). 2 ^ t) sum
+      let bits : 30 - n + (n - 1) ≡ 29 = omega arith in
+      sym (W.pow-add 2 (30 - n) (n - 1)) ∙ ap (λ (t : ℕ). 2 ^ t) bits
 
   -- an index of the half coset lies between 0 and 2^31
   pub half-bound : (i : ℕ) → i < 2 ^ (n - 1) → (0 < unit n + 4 * unit n * i) × (unit n + 4 * unit n * i < 2 ^ 31)
@@ -95,10 +95,10 @@ module _ (n : ℕ) (lo : 1 ≤ n) (hi : n ≤ 30) where
       even x h = ap (domainIndex n) (even-to-domain (2 ^ n) x) ∙ domain-first x (omega (arith, two-halves)) ∙ omega arith
 
       odd : (x : ℕ) → 2 * x + 1 < 2 ^ n → domainIndex n (toDomain (2 ^ n) (2 * x + 1)) ≡ unit n * (2 * (2 * x + 1) + 1)
-      odd x h = ap (domainIndex n) (odd-to-domain (2 ^ n) x (omega arith)) ∙ second (2 ^ (n - 1) - 1 - x) (omega (arith, two-halves))
+      odd x h = ap (domainIndex n) (odd-to-domain (2 ^ n) x (omega arith)) ∙ upper-index (2 ^ (n - 1) - 1 - x) (omega (arith, two-halves))
         where
-          second : (y : ℕ) → x + suc y ≡ 2 ^ (n - 1) → domainIndex n (2 ^ n - 1 - x) ≡ unit n * (2 * (2 * x + 1) + 1)
-          second y e =
+          upper-index : (y : ℕ) → x + suc y ≡ 2 ^ (n - 1) → domainIndex n (2 ^ n - 1 - x) ≡ unit n * (2 * (2 * x + 1) + 1)
+          upper-index y e =
               let place : 2 ^ n - 1 - x ≡ 2 ^ (n - 1) + y = omega (arith, two-halves) in
               ap (domainIndex n) place ∙ domain-second y (omega arith) ∙ omega (arith, unit-half, ap (λ (t : ℕ). unit n * t) e)
 
@@ -134,25 +134,25 @@ module _ (n : ℕ) (lo : 1 ≤ n) (hi : n ≤ 30) where
       places : toCoset (2 ^ n) i ≡ toCoset (2 ^ n) j
       places = omega (arith, odd)
 
-  same-unit : 2 ^ (29 - (n - 1)) ≡ unit n
-  same-unit = ap (λ (t : ℕ). 2 ^ t) (omega arith)
+  unit-is-pow : 2 ^ (29 - (n - 1)) ≡ unit n
+  unit-is-pow = ap (λ (t : ℕ). 2 ^ t) (omega arith)
 
   -- 2^n steps along the coset lead round the circle
-  coset-turns : (k : ℕ) → cosetIndex n k ≡ cosetIndex n (k % 2 ^ n)
-  coset-turns k = ap (λ (t : ℕ). t % 2 ^ 31) (turns (k / 2 ^ n) (k % 2 ^ n) (N.div-add-mod k (2 ^ n))) ∙ N.add-mul-mod-self-right (unit n * (2 * (k % 2 ^ n) + 1)) (k / 2 ^ n) (2 ^ 31)
+  coset-index-mod : (k : ℕ) → cosetIndex n k ≡ cosetIndex n (k % 2 ^ n)
+  coset-index-mod k = ap (λ (t : ℕ). t % 2 ^ 31) (index-past-size (k / 2 ^ n) (k % 2 ^ n) (N.div-add-mod k (2 ^ n))) ∙ N.add-mul-mod-self-right (unit n * (2 * (k % 2 ^ n) + 1)) (k / 2 ^ n) (2 ^ 31)
     where
-      whole : unit n * 2 ^ n ≡ 2 ^ 30
-      whole = omega (arith, ap (λ (t : ℕ). unit n * t) (two-halves n lo hi), unit-half n lo hi)
+      unit-times-size : unit n * 2 ^ n ≡ 2 ^ 30
+      unit-times-size = omega (arith, ap (λ (t : ℕ). unit n * t) (two-halves n lo hi), unit-half n lo hi)
 
-      turns : (q r : ℕ) → 2 ^ n * q + r ≡ k → unit n * (2 * k + 1) ≡ unit n * (2 * r + 1) + q * 2 ^ 31
-      turns q r e = omega (arith, ap (λ (t : ℕ). unit n * t) e, ap (λ (t : ℕ). t * q) whole)
+      index-past-size : (q r : ℕ) → 2 ^ n * q + r ≡ k → unit n * (2 * k + 1) ≡ unit n * (2 * r + 1) + q * 2 ^ 31
+      index-past-size q r e = omega (arith, ap (λ (t : ℕ). unit n * t) e, ap (λ (t : ℕ). t * q) unit-times-size)
 
   module _ (x y : ℕ) (b : x < P) (c : y < P) where
-    is-odd : (i : ℕ) × (i < 2 ^ n) × ((x, y) ≡ indexPoint (domainIndex n i)) → OddMultiple (n - 1) (onPair element (x, y))
-    is-odd (i, h, e) = (
+    is-odd-multiple : (i : ℕ) × (i < 2 ^ n) × ((x, y) ≡ indexPoint (domainIndex n i)) → OddMultiple (n - 1) (onPair element (x, y))
+    is-odd-multiple (i, h, e) = (
       toCoset (2 ^ n) i,
       ap (onPair element) e ∙ to-index-point (domainIndex n i)
-          ∙ ap (λ (t : ℕ). multiple m31 t G) (domain-at n lo hi i h ∙ ap (λ (t : ℕ). t * (2 * toCoset (2 ^ n) i + 1)) (sym same-unit)),
+          ∙ ap (λ (t : ℕ). multiple m31 t G) (domain-at n lo hi i h ∙ ap (λ (t : ℕ). t * (2 * toCoset (2 ^ n) i + 1)) (sym unit-is-pow)),
     )
 
     is-element : OddMultiple (n - 1) (onPair element (x, y)) → (i : ℕ) × (i < 2 ^ n) × ((x, y) ≡ indexPoint (domainIndex n i))
@@ -160,8 +160,8 @@ module _ (n : ℕ) (lo : 1 ≤ n) (hi : n ≤ 30) where
         let h : j % 2 ^ n < 2 ^ n = N.mod-lt j (W.pow-pos n) in (
           toDomain (2 ^ n) (j % 2 ^ n),
           to-domain-below (2 ^ n) (even-size n lo hi) (j % 2 ^ n) h,
-          index-unique (x, y) (2 ^ (29 - (n - 1)) * (2 * j + 1)) (b, c) e ∙ ap (λ (t : ℕ). indexPoint (t * (2 * j + 1))) same-unit
-              ∙ sym (index-reduce (unit n * (2 * j + 1))) ∙ ap indexPoint (coset-turns j ∙ sym (domain-coset n lo hi (j % 2 ^ n) h)),
+          index-unique (x, y) (2 ^ (29 - (n - 1)) * (2 * j + 1)) (b, c) e ∙ ap (λ (t : ℕ). indexPoint (t * (2 * j + 1))) unit-is-pow
+              ∙ sym (index-reduce (unit n * (2 * j + 1))) ∙ ap indexPoint (coset-index-mod j ∙ sym (domain-coset n lo hi (j % 2 ^ n) h)),
         )
 
     abbrev InField : Type 0
@@ -184,13 +184,13 @@ module _ (n : ℕ) (lo : 1 ≤ n) (hi : n ≤ 30) where
     points-exactly : ((i : ℕ) × (i < 2 ^ n) × ((x, y) ≡ indexPoint (domainIndex n i))) ↔ InWords
     points-exactly =
         let odd : OddMultiple (n - 1) (onPair element (x, y)) ↔ InField = odd-multiples (n - 1) (omega arith) (onPair element (x, y)) in
-        (λ r. to-words (odd .0 (is-odd r)), λ r. is-element (odd .1 (to-field r)))
+        (λ r. to-words (odd .0 (is-odd-multiple r)), λ r. is-element (odd .1 (to-field r)))
 
 pub point-set : (n : ℕ) → 1 ≤ n → n ≤ 30 → PointSet n
 point-set n lo hi = record {
   size = domain-length n lo hi;
-  first = domain-first n lo hi;
-  second = domain-negative n lo hi;
+  first-half = domain-first n lo hi;
+  second-half = domain-negative n lo hi;
   below = λ i h. index-below (domainIndex n i);
   apart = points-apart n lo hi;
   exactly = points-exactly n lo hi;

@@ -15,14 +15,14 @@ inTurn (Refused why) next = Refused why
 pub refused-first : (c next : Check) (why : Refusal) → c ≡ Refused why → Refused why ≡ inTurn c next
 refused-first c next why e = rw e
 
-turn : (t : Bool) (c d : Check) (why : Refusal) → inTurn (cond t c (Refused why)) d ≡ cond t (inTurn c d) (Refused why)
-turn true c d why = refl
-turn false c d why = refl
+in-turn-cond : (t : Bool) (c d : Check) (why : Refusal) → inTurn (cond t c (Refused why)) d ≡ cond t (inTurn c d) (Refused why)
+in-turn-cond true c d why = refl
+in-turn-cond false c d why = refl
 
 -- the checks of two lists in turn are those of both
 pub outcome-append : (a b : Checks) → inTurn (outcome a) (outcome b) ≡ outcome (a ++ b)
 outcome-append [] b = refl
-outcome-append (test ∷ a) b = turn (test .0) (outcome a) (outcome b) (test .1) ∙ rw (outcome-append a b)
+outcome-append (test ∷ a) b = in-turn-cond (test .0) (outcome a) (outcome b) (test .1) ∙ rw (outcome-append a b)
 
 -- r is what two lists of checks said, one after the other
 pub in-turn : (a b : Checks) (c d r : Check) → c ≡ outcome a → d ≡ outcome b → r ≡ inTurn c d → r ≡ outcome (a ++ b)

@@ -15,11 +15,11 @@ element-homomorphism = record {
   to-one = refl;
   to-add = λ x y. residue-mod P P-pos (x + y) ∙ residue-add P P-pos x y;
   to-mul = λ x y. residue-mod P P-pos (x * y) ∙ residue-mul P P-pos x y;
-  to-neg = λ x. residue-mod P P-pos (P - x % P) ∙ residue-neg P P-pos (x % P) (low x) ∙ ap (m31 .neg) (residue-mod P P-pos x);
+  to-neg = λ x. residue-mod P P-pos (P - x % P) ∙ residue-neg P P-pos (x % P) (mod-P-most x) ∙ ap (m31 .neg) (residue-mod P P-pos x);
 }
   where
-    low : (x : ℕ) → x % P ≤ P
-    low x = omega arith
+    mod-P-most : (x : ℕ) → x % P ≤ P
+    mod-P-most x = omega arith
 
 pub element-injective : (a b : ℕ) → a < P → b < P → element a ≡ element b → a ≡ b
 element-injective = residue-injective P P-pos

@@ -38,17 +38,17 @@ m31-representation = record {
   inverse-element = m31-inverse-element;
 }
 
-pub minus-one : element (negP 1) ≡ m31 .neg (m31 .one)
-minus-one = element-homomorphism .to-neg 1
+pub element-minus-one : element (negP 1) ≡ m31 .neg (m31 .one)
+element-minus-one = element-homomorphism .to-neg 1
 
 abbrev pub cm31-representation : Representation complexWords cm31
-cm31-representation = extension words31 m31 m31-representation (negP 1) (m31 .neg (m31 .one)) minus-one minus-one-nonsquare
+cm31-representation = extension words31 m31 m31-representation (negP 1) (m31 .neg (m31 .one)) element-minus-one minus-one-nonsquare
 
-pub two-plus-i : onPair element (twoPlusI words31) ≡ twoPlusI m31
-two-plus-i = λ i. (element-homomorphism .to-add 1 1 i, element 1)
+pub element-two-plus-i : onPair element (twoPlusI words31) ≡ twoPlusI m31
+element-two-plus-i = λ i. (element-homomorphism .to-add 1 1 i, element 1)
 
 abbrev pub qm31-representation : Representation quarticWords qm31
-qm31-representation = extension complexWords cm31 cm31-representation (twoPlusI words31) (twoPlusI m31) two-plus-i twoPlusI-nonsquare
+qm31-representation = extension complexWords cm31 cm31-representation (twoPlusI words31) (twoPlusI m31) element-two-plus-i twoPlusI-nonsquare
 
 pub m31-mul-inverse : (a : ℕ) → a < P → ¬ (a ≡ 0) → mulP a (invP a) ≡ 1
 m31-mul-inverse a h n = mul-inverse words31 m31 m31-representation a (h, n)

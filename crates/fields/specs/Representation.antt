@@ -40,14 +40,14 @@ module _ (W K : Ops) (H : Representation W K) where
   abbrev pub Unit : W .El → Type 0
   Unit a = Reduced a × ¬ (a ≡ W .zero)
 
-  pub nonzero : (a : W .El) → Unit a → ¬ (element a ≡ 𝟘)
-  nonzero a u e = u .1 (injective a (W .zero) (u .0) zero-reduced (e ∙ sym to-zero))
+  pub unit-nonzero : (a : W .El) → Unit a → ¬ (element a ≡ 𝟘)
+  unit-nonzero a u e = u .1 (injective a (W .zero) (u .0) zero-reduced (e ∙ sym to-zero))
 
   -- the inverse is one
   pub mul-inverse : (a : W .El) → Unit a → W .mul a (inverse a) ≡ W .one
   mul-inverse a u =
       injective (W .mul a (inverse a)) (W .one) (mul-reduced a (inverse a)) one-reduced
-      (to-mul a (inverse a) ∙ ap (_⊗_ (element a)) (inverse-element a (nonzero a u)) ∙ field .mul-inv (element a) (nonzero a u) ∙ sym to-one)
+      (to-mul a (inverse a) ∙ ap (_⊗_ (element a)) (inverse-element a (unit-nonzero a u)) ∙ field .mul-inv (element a) (unit-nonzero a u) ∙ sym to-one)
 
   inverse-of-elements : (a b : W .El) → Reduced b → element a ⊗ element b ≡ 𝟙 → b ≡ inverse a
   inverse-of-elements a b h e =
@@ -61,7 +61,7 @@ module _ (W K : Ops) (H : Representation W K) where
   pub mul-unit : (a b : W .El) → Unit a → Unit b → Unit (W .mul a b)
   mul-unit a b u v = (
     mul-reduced a b,
-    λ e. F.mul-nonzero K field (element a) (element b) (nonzero a u) (nonzero b v) (sym (to-mul a b) ∙ ap element e ∙ to-zero),
+    λ e. F.mul-nonzero K field (element a) (element b) (unit-nonzero a u) (unit-nonzero b v) (sym (to-mul a b) ∙ ap element e ∙ to-zero),
   )
 
   pub inverse-unit : (a : W .El) → Unit a → Unit (inverse a)

@@ -35,27 +35,27 @@ first-at test n k l h e = first-is test n k (omega arith) (h .none) (λ lt. e)
 pub first-none : (test : ℕ → Bool) (n k : ℕ) → k ≡ n → None test k → k ≡ first test n
 first-none test n k q h = first-is test n k (omega arith) (h .none) (λ lt. absurd (N.not-le-of-lt lt (omega arith)))
 
-passed : (t : Bool) (n m : ℕ) → suc n ≤ cond t 0 (suc m) → (t ≡ false) × (n ≤ m)
-passed true n m h = absurd (N.not-suc-le-zero h)
-passed false n m h = (refl, N.le-of-suc-le-suc h)
+passed-first : (t : Bool) (n m : ℕ) → suc n ≤ cond t 0 (suc m) → (t ≡ false) × (n ≤ m)
+passed-first true n m h = absurd (N.not-suc-le-zero h)
+passed-first false n m h = (refl, N.le-of-suc-le-suc h)
 
-nowhere : (test : ℕ → Bool) (n : ℕ) → n ≤ first test n → (j : ℕ) → j < n → test j ≡ false
+none-before : (test : ℕ → Bool) (n : ℕ) → n ≤ first test n → (j : ℕ) → j < n → test j ≡ false
 unfolding first
-nowhere test zero h j l = absurd (N.not-suc-le-zero l)
-nowhere test (suc n) h zero l = passed (test 0) n (first (λ k. test (suc k)) n) h .0
-nowhere test (suc n) h (suc j) l =
-    nowhere (λ k. test (suc k)) n (passed (test 0) n (first (λ k. test (suc k)) n) h .1) j (N.le-of-suc-le-suc l)
+none-before test zero h j l = absurd (N.not-suc-le-zero l)
+none-before test (suc n) h zero l = passed-first (test 0) n (first (λ k. test (suc k)) n) h .0
+none-before test (suc n) h (suc j) l =
+    none-before (λ k. test (suc k)) n (passed-first (test 0) n (first (λ k. test (suc k)) n) h .1) j (N.le-of-suc-le-suc l)
 
 -- nothing is found only where there is nothing
 pub none-found : (test : ℕ → Bool) (n : ℕ) → n ≤ first test n → None test n
-none-found test n h = record { none = nowhere test n h }
+none-found test n h = record { none = none-before test n h }
 
 found-next : (test : ℕ → Bool) (m n : ℕ) (t : Bool) → test 0 ≡ t → (m < n → test (suc m) ≡ true) → cond t 0 (suc m) < suc n → test (cond t 0 (suc m)) ≡ true
 found-next test m n true e rest h = e
 found-next test m n false e rest h = rest (N.le-of-suc-le-suc h)
 
 -- the test holds where something is found
-pub found : (test : ℕ → Bool) (n : ℕ) → first test n < n → test (first test n) ≡ true
+pub found-holds : (test : ℕ → Bool) (n : ℕ) → first test n < n → test (first test n) ≡ true
 unfolding first
-found test zero h = absurd (N.not-suc-le-zero h)
-found test (suc n) h = found-next test (first (λ k. test (suc k)) n) n (test 0) refl (found (λ k. test (suc k)) n) h
+found-holds test zero h = absurd (N.not-suc-le-zero h)
+found-holds test (suc n) h = found-next test (first (λ k. test (suc k)) n) n (test 0) refl (found-holds (λ k. test (suc k)) n) h

@@ -27,13 +27,13 @@ zero-minus-neg : (n : ℕ) → pos 0 -ℤ negℤ (pos n) ≡ pos n
 zero-minus-neg zero = refl
 zero-minus-neg (suc n) = ap pos (zero-add (suc n))
 
-negative : (x : ℤ) → ltZ x (pos 0) ≡ true → x ≡ negsuc (mag x)
-negative (pos n) t = absurd (not-suc-le-zero (ltb-true n 0 t))
-negative (negsuc n) t = refl
+negative-is-negsuc : (x : ℤ) → ltZ x (pos 0) ≡ true → x ≡ negsuc (mag x)
+negative-is-negsuc (pos n) t = absurd (not-suc-le-zero (ltb-true n 0 t))
+negative-is-negsuc (negsuc n) t = refl
 
-positive : (x : ℤ) → ltZ x (pos 0) ≡ false → x ≡ pos (mag x)
-positive (pos n) t = refl
-positive (negsuc n) t = cc
+nonnegative-is-mag : (x : ℤ) → ltZ x (pos 0) ≡ false → x ≡ pos (mag x)
+nonnegative-is-mag (pos n) t = refl
+nonnegative-is-mag (negsuc n) t = cc
 
 -- x as the machine reads it back
 abbrev pub read : Width → ℤ → ℤ
@@ -46,7 +46,7 @@ module _ (w : Width) where
 
   module _ (x : ℤ) (s : SFits w x) (t : ltZ (read w x) (pos 0) ≡ true) where
     pub is-negative : x ≡ negsuc (mag x)
-    is-negative = negative x (subst (λ (z : ℤ). ltZ z (pos 0) ≡ true) (toZ-ofZ s) t)
+    is-negative = negative-is-negsuc x (subst (λ (z : ℤ). ltZ z (pos 0) ≡ true) (toZ-ofZ s) t)
 
     plus-one : read w x +ℤ pos 1 ≡ negℤ (pos (mag x))
     plus-one = ap (λ (z : ℤ). z +ℤ pos 1) (toZ-ofZ s ∙ is-negative) ∙ negsuc-plus-one (mag x)
@@ -67,11 +67,11 @@ module _ (w : Width) where
     negative-parts = rw is-negative
 
   module _ (x : ℤ) (s : SFits w x) (t : ltZ (read w x) (pos 0) ≡ false) where
-    pub is-positive : x ≡ pos (mag x)
-    is-positive = positive x (subst (λ (z : ℤ). ltZ z (pos 0) ≡ false) (toZ-ofZ s) t)
+    pub is-nonnegative : x ≡ pos (mag x)
+    is-nonnegative = nonnegative-is-mag x (subst (λ (z : ℤ). ltZ z (pos 0) ≡ false) (toZ-ofZ s) t)
 
-    pub positive-reads : read w x ≡ pos (mag x)
-    positive-reads = toZ-ofZ s ∙ is-positive
+    pub nonnegative-reads : read w x ≡ pos (mag x)
+    nonnegative-reads = toZ-ofZ s ∙ is-nonnegative
 
-    pub positive-parts : record { negative = false; size = mag x } ≡ partsOf x
-    positive-parts = rw is-positive
+    pub nonnegative-parts : record { negative = false; size = mag x } ≡ partsOf x
+    nonnegative-parts = rw is-nonnegative

@@ -38,10 +38,10 @@ squarings-above-30 : (a n : ℕ) → 30 < n → powP a (2 ^ (1 + (n - 1) % 30)) 
 squarings-above-30 a n h =
     powP-unique (powP a (2 ^ (1 + (n - 1) % 30))) a (2 ^ n) (powP-below a (2 ^ (1 + (n - 1) % 30)))
     (element-pow a (2 ^ (1 + (n - 1) % 30)) ∙ ap (λ (t : ℕ). pow m31 (element a) (2 ^ t)) (N.add-comm 1 ((n - 1) % 30))
-    ∙ sym (square-periods (element a) ((n - 1) % 30) ((n - 1) / 30)) ∙ ap (λ (t : ℕ). pow m31 (element a) (2 ^ t)) whole)
+    ∙ sym (square-periods (element a) ((n - 1) % 30) ((n - 1) / 30)) ∙ ap (λ (t : ℕ). pow m31 (element a) (2 ^ t)) periods-and-rest)
   where
-    whole : (n - 1) % 30 + (n - 1) / 30 * 30 + 1 ≡ n
-    whole = omega arith
+    periods-and-rest : (n - 1) % 30 + (n - 1) / 30 * 30 + 1 ≡ n
+    periods-and-rest = omega arith
 
 pub squarings-same : (a n : ℕ) → powP a (2 ^ squaringsOf n) ≡ powP a (2 ^ n)
 squarings-same a n = go (leb n 30) refl

@@ -6,7 +6,7 @@ use mathlib.Core.List.{List, _++_}
 use borrow.Author.Tests.{lt-ltb, le-ltb, eqb-true, leb-true, not-true, not-false}
 use lib.Dec.{leb, eqb}
 use lib.ListN.{length, drop}
-use Rattle.fields.specs.SearchLaws.{found}
+use Rattle.fields.specs.SearchLaws.{found-holds}
 use Rattle.fields.specs.declared.answer.WriteAnswer.the-variants.{Written, Refused}
 use Rattle.fields.specs.declared.refusal.Refusal.the-variants.{Length}
 use Rattle.orders.specs.Orders.{reordered, logSize, inPlaceAnswer, inPlaceExit, lengthsFit, copyAnswer, copyExit}
@@ -15,7 +15,7 @@ use Rattle.orders.specs.Orders.{reordered, logSize, inPlaceAnswer, inPla
 
 module _ (l : List ℕ) (n : ℕ) (e : n ≡ logSize (length l)) where
   pub is-power : n < 64 → length l ≡ 2 ^ n
-  is-power h = sym (eqb-true (2 ^ n) (length l) (rw e (found (λ k. eqb (2 ^ k) (length l)) 64 (rw (sym e) h))))
+  is-power h = sym (eqb-true (2 ^ n) (length l) (rw e (found-holds (λ k. eqb (2 ^ k) (length l)) 64 (rw (sym e) h))))
 
   pub accepted : (order : ℕ → ℕ → ℕ) (v : List ℕ) → n < 64 → v ≡ reordered (order n) l → (Written ≡ inPlaceAnswer (length l)) × (v ≡ inPlaceExit (inPlaceAnswer (length l)) (order (logSize (length l))) l)
   unfolding inPlaceAnswer inPlaceExit

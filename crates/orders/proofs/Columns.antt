@@ -11,9 +11,9 @@ use Rattle.orders.specs.BitReverse.{reverseBits, reversed-below, reverse
 use Rattle.orders.specs.Bounds.{BlockRoom, PairRoom}
 use Rattle.orders.specs.Orders.{bitReverseIndex, reordered, toDomain, toCoset, cosetBitReversed}
 use Rattle.orders.specs.OrderLaws.{index-reversed, is-reordered, even-to-domain, odd-to-domain, first-to-coset, second-to-coset}
-use Rattle.orders.specs.OrderLaws.{to-coset-below, to-domain-to-coset, coset-even, coset-odd, coset-bits-below, coset-bits-back}
+use Rattle.orders.specs.OrderLaws.{to-coset-below, to-domain-to-coset, coset-bits-even, coset-bits-odd, coset-bits-below, coset-bits-back}
 use Rattle.orders.specs.Swaps.{swappedIfBefore, rowSwapped, blockSwapped, pairSwapped}
-use Rattle.orders.proofs.Turns.{Visits, in-order, Swapped, none-swapped, all-swapped, turned}
+use Rattle.orders.proofs.Turns.{Visits, in-order, Swapped, none-swapped, all-swapped, swapped-next}
 use Rattle.orders.proofs.Turns.{Copied, none-copied, copied, all-copied}
 
 -- ---- bit_reverse, word by word
@@ -39,7 +39,7 @@ module _ (n : ℕ) (l : List ℕ) (size : length l ≡ 2 ^ n) where
       → Words n l (i + 1) (swappedIfBefore i j i j v)
   next-word i j v h f s =
       let r : reverseBits n i ≡ j = sym (f ∙ index-reversed i n (subst (λ (t : ℕ). i < t) size h)) in
-      turned (reverseBits n) (λ k. k) l within twice (in-order (length l)) i i j refl h r v s (i + 1) j refl refl
+      swapped-next (reverseBits n) (λ k. k) l within twice (in-order (length l)) i i j refl h r v s (i + 1) j refl refl
 
   pub word-room : (i j : ℕ) → i < length l → j ≡ bitReverseIndex i n → j < length l
   word-room i j h f = rw (f ∙ index-reversed i n (subst (λ (t : ℕ). i < t) size h)) (within i h)
@@ -91,15 +91,15 @@ module _ (n m : ℕ) (e : n ≡ 2 + (m + 2)) (l : List ℕ) (size : length l ≡
         omega (arith, upper k h, upper j g);
   }
 
-  abbrev Turned : ℕ → List ℕ → Type 0
-  Turned t v = Swapped (reverseBits n) (blockTurn (2 ^ m)) l t v
+  abbrev SwappedBlocks : ℕ → List ℕ → Type 0
+  SwappedBlocks t v = Swapped (reverseBits n) (blockTurn (2 ^ m)) l t v
 
   -- word c of row h of block x: the reverses of c and h in two bits are d and g
-  word-turned : (h x y c d g quarter : ℕ) → quarter ≡ 4 * 2 ^ m → h < 4 → c < 4 → d < 4 → x < 2 ^ m
+  word-swapped : (h x y c d g quarter : ℕ) → quarter ≡ 4 * 2 ^ m → h < 4 → c < 4 → d < 4 → x < 2 ^ m
       → y ≡ reverseBits m x → reverseBits 2 c ≡ d → reverseBits 2 h ≡ g
       → (s t u i j : ℕ) (v : List ℕ) → s ≡ t + 1 → t ≡ 16 * x + 4 * h + c → u ≡ 16 * y + 4 * d + g
-      → i ≡ h * quarter + 4 * x + c → j ≡ d * quarter + 4 * y + g → Turned t v → Turned s (swappedIfBefore t u i j v)
-  word-turned h x y c d g quarter q hh ch dh b r cd hg s t u i j v next et eu ei ej w =
+      → i ≡ h * quarter + 4 * x + c → j ≡ d * quarter + 4 * y + g → SwappedBlocks t v → SwappedBlocks s (swappedIfBefore t u i j v)
+  word-swapped h x y c d g quarter q hh ch dh b r cd hg s t u i j v next et eu ei ej w =
       let bound : g < 4 = rw (sym hg) (reversed-below 2 h) in
       let below : y < 2 ^ m = rw r (reversed-below m x) in
       let rows : h * quarter ≡ h * 2 ^ m * 4 = ap (λ (t : ℕ). h * t) (q ∙ N.mul-comm 4 (2 ^ m)) ∙ sym (N.mul-assoc h (2 ^ m) 4) in
@@ -111,44 +111,44 @@ module _ (n m : ℕ) (e : n ≡ 2 + (m + 2)) (l : List ℕ) (size : length l ≡
       ∙ ap₂ (λ (a z : ℕ). a * (4 * 2 ^ m) + z) cd (ap₂ (λ (a z : ℕ). 4 * a + z) (sym r) hg)
       ∙ ap (λ (a : ℕ). d * a + (4 * y + g)) (sym q)
       ∙ omega arith in
-      turned (reverseBits n) (blockTurn (2 ^ m)) l (within n l size) (twice n l size) visits t i j
+      swapped-next (reverseBits n) (blockTurn (2 ^ m)) l (within n l size) (twice n l size) visits t i j
       (turn-of i h x c b (omega arith) (omega arith) ∙ sym et) (omega (arith, sixteenths)) partner v w s u next
       (turn-of j d y g below (omega arith) (omega arith) ∙ sym eu)
 
-  row-turned : (h x y g quarter : ℕ) → quarter ≡ 4 * 2 ^ m → h < 4 → x < 2 ^ m → y ≡ reverseBits m x → reverseBits 2 h ≡ g
+  row-swapped : (h x y g quarter : ℕ) → quarter ≡ 4 * 2 ^ m → h < 4 → x < 2 ^ m → y ≡ reverseBits m x → reverseBits 2 h ≡ g
       → (s t u from to : ℕ) (v : List ℕ) → s ≡ t + 4 → t ≡ 16 * x + 4 * h → u ≡ 16 * y + g
-      → from ≡ h * quarter + 4 * x → to ≡ 4 * y + g → Turned t v → Turned s (rowSwapped quarter t u from to v)
+      → from ≡ h * quarter + 4 * x → to ≡ 4 * y + g → SwappedBlocks t v → SwappedBlocks s (rowSwapped quarter t u from to v)
   unfolding rowSwapped reverseBits
-  row-turned h x y g quarter q hh b r hg s t u from to v next et eu ef eo w =
+  row-swapped h x y g quarter q hh b r hg s t u from to v next et eu ef eo w =
       let w₁ =
-      word-turned h x y 0 0 g quarter q hh (lit< tt) (lit< tt) b r refl hg (t + 1) t u from to v refl
+      word-swapped h x y 0 0 g quarter q hh (lit< tt) (lit< tt) b r refl hg (t + 1) t u from to v refl
       (omega arith) (omega arith) (omega arith) (omega arith) w in
       let w₂ =
-      word-turned h x y 1 2 g quarter q hh (lit< tt) (lit< tt) b r refl hg (t + 2) (t + 1) (u + 8) (from + 1) (to + 2 * quarter) _
+      word-swapped h x y 1 2 g quarter q hh (lit< tt) (lit< tt) b r refl hg (t + 2) (t + 1) (u + 8) (from + 1) (to + 2 * quarter) _
       (omega arith) (omega arith) (omega arith) (omega arith) (omega arith) w₁ in
       let w₃ =
-      word-turned h x y 2 1 g quarter q hh (lit< tt) (lit< tt) b r refl hg (t + 3) (t + 2) (u + 4) (from + 2) (to + quarter) _
+      word-swapped h x y 2 1 g quarter q hh (lit< tt) (lit< tt) b r refl hg (t + 3) (t + 2) (u + 4) (from + 2) (to + quarter) _
       (omega arith) (omega arith) (omega arith) (omega arith) (omega arith) w₂ in
-      word-turned h x y 3 3 g quarter q hh (lit< tt) (lit< tt) b r refl hg s (t + 3) (u + 12) (from + 3) (to + 3 * quarter) _
+      word-swapped h x y 3 3 g quarter q hh (lit< tt) (lit< tt) b r refl hg s (t + 3) (u + 12) (from + 3) (to + 3 * quarter) _
       (omega arith) (omega arith) (omega arith) (omega arith) (omega arith) w₃
 
-  block-turned : (quarter x y : ℕ) (v : List ℕ) → quarter ≡ length l / 4 → x < length l / 16 → y ≡ bitReverseIndex x m
-      → Turned (16 * x) v → Turned (16 * (x + 1)) (blockSwapped quarter x y v)
+  block-swapped : (quarter x y : ℕ) (v : List ℕ) → quarter ≡ length l / 4 → x < length l / 16 → y ≡ bitReverseIndex x m
+      → SwappedBlocks (16 * x) v → SwappedBlocks (16 * (x + 1)) (blockSwapped quarter x y v)
   unfolding blockSwapped reverseBits
-  block-turned quarter x y v q₀ b₀ r₀ w =
+  block-swapped quarter x y v q₀ b₀ r₀ w =
       let q : quarter ≡ 4 * 2 ^ m = omega (arith, sixteenths) in
       let b : x < 2 ^ m = omega (arith, sixteenths) in
       let r : y ≡ reverseBits m x = r₀ ∙ index-reversed x m b in
       let w₁ =
-      row-turned 0 x y 0 quarter q (lit< tt) b r refl (16 * x + 4) (16 * x) (16 * y) (4 * x) (4 * y) v refl
+      row-swapped 0 x y 0 quarter q (lit< tt) b r refl (16 * x + 4) (16 * x) (16 * y) (4 * x) (4 * y) v refl
       (omega arith) (omega arith) (omega arith) (omega arith) w in
       let w₂ =
-      row-turned 1 x y 2 quarter q (lit< tt) b r refl (16 * x + 8) (16 * x + 4) (16 * y + 2) (quarter + 4 * x) (4 * y + 2) _
+      row-swapped 1 x y 2 quarter q (lit< tt) b r refl (16 * x + 8) (16 * x + 4) (16 * y + 2) (quarter + 4 * x) (4 * y + 2) _
       (omega arith) (omega arith) (omega arith) (omega arith) (omega arith) w₁ in
       let w₃ =
-      row-turned 2 x y 1 quarter q (lit< tt) b r refl (16 * x + 12) (16 * x + 8) (16 * y + 1) (2 * quarter + 4 * x) (4 * y + 1) _
+      row-swapped 2 x y 1 quarter q (lit< tt) b r refl (16 * x + 12) (16 * x + 8) (16 * y + 1) (2 * quarter + 4 * x) (4 * y + 1) _
       (omega arith) (omega arith) (omega arith) (omega arith) (omega arith) w₂ in
-      row-turned 3 x y 3 quarter q (lit< tt) b r refl (16 * (x + 1)) (16 * x + 12) (16 * y + 3) (3 * quarter + 4 * x) (4 * y + 3) _
+      row-swapped 3 x y 3 quarter q (lit< tt) b r refl (16 * (x + 1)) (16 * x + 12) (16 * y + 3) (3 * quarter + 4 * x) (4 * y + 3) _
       (omega arith) (omega arith) (omega arith) (omega arith) (omega arith) w₃
 
 -- l with the first x blocks done
@@ -171,7 +171,7 @@ module _ (n : ℕ) (least : 4 ≤ n) (l : List ℕ) (size : length l ≡ 2 ^ n) 
 
   pub next-block : (quarter x y : ℕ) (v : List ℕ) → quarter ≡ length l / 4 → x < length l / 16 → y ≡ bitReverseIndex x (n - 4)
       → Blocks n l x v → Blocks n l (x + 1) (blockSwapped quarter x y v)
-  next-block = block-turned n (n - 4) four-more l size
+  next-block = block-swapped n (n - 4) four-more l size
 
   -- what a block's places want
   pub block-room : (x y : ℕ) (v : List ℕ) → x < length l / 16 → y ≡ bitReverseIndex x (n - 4) → Blocks n l x v
@@ -237,14 +237,14 @@ module _ (n : ℕ) (least : 1 ≤ n) (l : List ℕ) (size : length l ≡ 2 ^ n) 
       → Pairs n l x v → Pairs n l (x + 1) (pairSwapped last x y v)
   unfolding pairSwapped
   next-pair last x y v q h f s =
-      let turn = turned (cosetBitReversed n) (λ k. k) l within-coset twice-coset (in-order (length l)) in
+      let turn = swapped-next (cosetBitReversed n) (λ k. k) l within-coset twice-coset (in-order (length l)) in
       let b : x < 2 ^ (n - 1) = omega (arith, double) in
       let r : y ≡ reverseBits (n - 1) x = f ∙ index-reversed x (n - 1) b in
       let even : cosetBitReversed n (2 * x) ≡ 2 * y =
-      ap (λ (t : ℕ). cosetBitReversed t (2 * x)) one-more ∙ coset-even (n - 1) x b ∙ ap (λ (t : ℕ). 2 * t) (sym r) in
+      ap (λ (t : ℕ). cosetBitReversed t (2 * x)) one-more ∙ coset-bits-even (n - 1) x b ∙ ap (λ (t : ℕ). 2 * t) (sym r) in
       let odd : cosetBitReversed n (2 * x + 1) ≡ last - 2 * y =
       ap (λ (t : ℕ). cosetBitReversed t (2 * x + 1)) one-more
-      ∙ coset-odd (n - 1) x b
+      ∙ coset-bits-odd (n - 1) x b
       ∙ omega (arith, r, double, N.pow-succ' 2 (n - 1)) in
       let s₁ = turn (2 * x) (2 * x) (2 * y) refl (omega (arith, double)) even v s (2 * x + 1) (2 * y) refl refl in
       turn (2 * x + 1) (2 * x + 1) (last - 2 * y) refl (omega (arith, double)) odd _ s₁ (2 * (x + 1)) (last - 2 * y)

@@ -122,9 +122,9 @@ module _ (f at : ℕ → ℕ) (l : List ℕ) (within : (k : ℕ) → k < length 
       rest = λ k b g q. other k (λ e. omega (arith, ap at e)) (λ e. omega (arith, ap (λ (m : ℕ). at (f m)) e, ap at back)) ∙ s .rest k b (omega arith) (omega arith);
     }
 
-    pub turned : (s u : ℕ) → s ≡ t + 1 → at j ≡ u → Swapped f at l s (swappedIfBefore t u i j v)
+    pub swapped-next : (s u : ℕ) → s ≡ t + 1 → at j ≡ u → Swapped f at l s (swappedIfBefore t u i j v)
     unfolding swappedIfBefore
-    turned s u next e =
+    swapped-next s u next e =
         subst (λ (m : ℕ). Swapped f at l m (swappedIfBefore t u i j v)) (sym next)
         (elim (decLt t u) [
           | yes h ↦ rw (lt-ltb t u h) (changed (omega arith))
@@ -165,15 +165,15 @@ module _ (f at : ℕ → ℕ) (values dst : List ℕ) (room : length values ≤ 
   pub all-copied : (t : ℕ) (out : List ℕ) → length values ≤ t → Copied f at values dst t out → out ≡ reordered f values ++ drop (length values) dst
   all-copied t out h s = ext-getD 0 out (reordered f values ++ drop (length values) dst) lengths same
     where
-      front : length (reordered f values) ≡ length values
-      front = reordered-length f values
+      reordered-values-length : length (reordered f values) ≡ length values
+      reordered-values-length = reordered-length f values
 
       lengths : length out ≡ length (reordered f values ++ drop (length values) dst)
-      lengths = s .long ∙ sym (length-append (reordered f values) (drop (length values) dst) ∙ omega (arith, front, length-drop (length values) dst))
+      lengths = s .long ∙ sym (length-append (reordered f values) (drop (length values) dst) ∙ omega (arith, reordered-values-length, length-drop (length values) dst))
 
       past : (k : ℕ) → length values ≤ k → getD out k 0 ≡ getD (reordered f values ++ drop (length values) dst) k 0
       past k g =
-          let e : length (reordered f values) + (k - length values) ≡ k = omega (arith, front) in
+          let e : length (reordered f values) + (k - length values) ≡ k = omega (arith, reordered-values-length) in
           s .rest k (λ b. absurd (N.not-le-of-lt b g))
           ∙ ap (λ (m : ℕ). getD dst m 0) (omega arith)
           ∙ sym (getD-drop (length values) dst (k - length values) 0)
@@ -182,6 +182,6 @@ module _ (f at : ℕ → ℕ) (values dst : List ℕ) (room : length values ≤ 
 
       same : (k : ℕ) → k < length out → getD out k 0 ≡ getD (reordered f values ++ drop (length values) dst) k 0
       same k b = elim (decLt k (length values)) [
-        | yes e ↦ s .written k e (omega (arith, visits .below k e)) ∙ sym (List·getD-append (reordered f values) (drop (length values) dst) 0 k (rw front e) ∙ reordered-at f values k e)
+        | yes e ↦ s .written k e (omega (arith, visits .below k e)) ∙ sym (List·getD-append (reordered f values) (drop (length values) dst) 0 k (rw reordered-values-length e) ∙ reordered-at f values k e)
         | no g ↦ past k (omega arith)
       ]

@@ -20,16 +20,16 @@ reversed-below (suc n) i =
     omega (arith, reversed-below n (i / 2), N.mul-le-mul-right (2 ^ n) bit, N.pow-succ' 2 n)
 
 -- pairs of positions become halves: a lowest bit goes to the top
-pub pair-first : (n p : ℕ) → reverseBits (suc n) (2 * p) ≡ reverseBits n p
+pub reversed-even : (n p : ℕ) → reverseBits (suc n) (2 * p) ≡ reverseBits n p
 unfolding reverseBits
-pair-first n p =
+reversed-even n p =
     let bit : 2 * p % 2 ≡ 0 = omega arith in
     let rest : 2 * p / 2 ≡ p = omega arith in
     rw (bit, rest) (omega arith)
 
-pub pair-second : (n p : ℕ) → reverseBits (suc n) (2 * p + 1) ≡ 2 ^ n + reverseBits n p
+pub reversed-odd : (n p : ℕ) → reverseBits (suc n) (2 * p + 1) ≡ 2 ^ n + reverseBits n p
 unfolding reverseBits
-pair-second n p =
+reversed-odd n p =
     let bit : (2 * p + 1) % 2 ≡ 1 = omega arith in
     let rest : (2 * p + 1) / 2 ≡ p = omega arith in
     rw (bit, rest) (omega arith)
@@ -58,13 +58,13 @@ reversed-dropped (suc n) a p =
     ∙ ap (λ (t : ℕ). p % 2 * 2 ^ n + t) (reversed-dropped n a (p / 2))
 
 -- halves of positions become pairs: a top bit goes to the bottom
-pub half-first : (n p : ℕ) → p < 2 ^ n → reverseBits (suc n) p ≡ 2 * reverseBits n p
-half-first n p h =
+pub reversed-first-half : (n p : ℕ) → p < 2 ^ n → reverseBits (suc n) p ≡ 2 * reverseBits n p
+reversed-first-half n p h =
     let none : p / 2 ^ n ≡ 0 = N.div-eq-of-lt h in
     reversed-last n p ∙ omega (arith, none)
 
-pub half-second : (n p : ℕ) → p < 2 ^ n → reverseBits (suc n) (2 ^ n + p) ≡ 2 * reverseBits n p + 1
-half-second n p h =
+pub reversed-second-half : (n p : ℕ) → p < 2 ^ n → reverseBits (suc n) (2 ^ n + p) ≡ 2 * reverseBits n p + 1
+reversed-second-half n p h =
     let one : 1 * 2 ^ n + p ≡ 2 ^ n + p = omega arith in
     let top : (2 ^ n + p) / 2 ^ n ≡ 1 = ap (λ (t : ℕ). t / 2 ^ n) (sym one) ∙ W.high 1 n h in
     let rest : reverseBits n (2 ^ n + p) ≡ reverseBits n p = ap (reverseBits n) (sym one) ∙ reversed-dropped n 1 p in
@@ -84,11 +84,11 @@ unfolding reverseBits
 reversed-twice zero i = omega (arith, N.pow-zero 2)
 reversed-twice (suc n) i = outer ∙ ap (λ (t : ℕ). i / 2 ^ n % 2 * 2 ^ n + t) (reversed-twice n i) ∙ sym (W.mod-pow-add i 1 n) ∙ ap (λ (t : ℕ). i % 2 ^ t) (omega arith)
   where
-    rest : reverseBits (suc n) i / 2 ≡ reverseBits n i
-    rest = omega (arith, reversed-last n i)
+    reversed-half : reverseBits (suc n) i / 2 ≡ reverseBits n i
+    reversed-half = omega (arith, reversed-last n i)
 
     outer : reverseBits (suc n) (reverseBits (suc n) i) ≡ i / 2 ^ n % 2 * 2 ^ n + reverseBits n (reverseBits n i)
-    outer = ap₂ (λ (s t : ℕ). s * 2 ^ n + reverseBits n t) (reversed-low-bit n i) rest
+    outer = ap₂ (λ (s t : ℕ). s * 2 ^ n + reverseBits n t) (reversed-low-bit n i) reversed-half
 
 pub reversed-back : (n i : ℕ) → i < 2 ^ n → reverseBits n (reverseBits n i) ≡ i
 reversed-back n i h = reversed-twice n i ∙ N.mod-eq-of-lt h

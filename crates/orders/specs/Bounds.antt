@@ -28,8 +28,8 @@ pub record RowRoom (size quarter t u from to : ℕ) : Type 0 where
   pub quarters : quarter * 4 ≡ size
   pub words : from + 3 < size
   pub partners : to < quarter
-  pub turns : t + 3 < size
-  pub partner-turns : u + 12 < size
+  pub visits : t + 3 < size
+  pub partner-visits : u + 12 < size
 
 -- block x of a column of so many words, and its partner, block y
 pub record BlockRoom (size quarter x y : ℕ) : Type 0 where
@@ -41,7 +41,7 @@ pub record BlockRoom (size quarter x y : ℕ) : Type 0 where
 pub record HasBlocks (log-size size : ℕ) : Type 0 where
   pub least : 4 ≤ log-size
   pub most : log-size < 64
-  pub power : size ≡ 2 ^ log-size
+  pub size-is-pow : size ≡ 2 ^ log-size
 
 -- words 2x and 2x + 1 of a column of so many, and their partners, at 2y and at 2y before the last
 pub record PairRoom (size last x y : ℕ) : Type 0 where

@@ -8,7 +8,7 @@ use native.Mathlib.Omega.{arith}
 use borrow.Author.Tests.{lt-ltb, le-ltb, eq-eqb, ne-eqb}
 use lib.ListN.{length, getD}
 use lib.Seq.{ext-getD}
-use Rattle.orders.specs.BitReverse.{reverseBits, reversed-below, reversed-back, half-first, half-second, reversed-complement}
+use Rattle.orders.specs.BitReverse.{reverseBits, reversed-below, reversed-back, reversed-first-half, reversed-second-half, reversed-complement}
 use Rattle.orders.specs.Orders.{bitReverseIndex, wordsAt, reordered, toDomain, toCoset, cosetBitReversed}
 
 -- ---- the index of document 01 is the reverse, but for log size 0
@@ -59,8 +59,8 @@ reordered-twice f g h l within e =
     ∙ ap (λ (m : ℕ). getD l m 0) (e i b))
 
 -- orders that undo one another
-pub undone : (f g : ℕ → ℕ) (l : List ℕ) → ((i : ℕ) → i < length l → f i < length l) → ((i : ℕ) → i < length l → g (f i) ≡ i) → reordered f (reordered g l) ≡ l
-undone f g l within e = reordered-twice f g (λ i. i) l within e ∙ sym (is-reordered (λ i. i) l l refl (λ i h. refl))
+pub reordered-undone : (f g : ℕ → ℕ) (l : List ℕ) → ((i : ℕ) → i < length l → f i < length l) → ((i : ℕ) → i < length l → g (f i) ≡ i) → reordered f (reordered g l) ≡ l
+reordered-undone f g l within e = reordered-twice f g (λ i. i) l within e ∙ sym (is-reordered (λ i. i) l l refl (λ i h. refl))
 
 -- ---- the order map, for any even size
 
@@ -84,13 +84,13 @@ second-to-coset size i h = rw (le-ltb i (size / 2) h)
 
 -- a number is 2x or 2x + 1
 pub by-parity : (C : ℕ → Type 0) → ((x : ℕ) → C (2 * x)) → ((x : ℕ) → C (2 * x + 1)) → (k : ℕ) → C k
-by-parity C even odd k = elim (decLt (k % 2) 1) [ yes l ↦ subst C (whole l) (even (k / 2)) | no g ↦ subst C (more g) (odd (k / 2)) ]
+by-parity C even odd k = elim (decLt (k % 2) 1) [ yes l ↦ subst C (even-half l) (even (k / 2)) | no g ↦ subst C (odd-half g) (odd (k / 2)) ]
   where
-    whole : k % 2 < 1 → 2 * (k / 2) ≡ k
-    whole l = omega arith
+    even-half : k % 2 < 1 → 2 * (k / 2) ≡ k
+    even-half l = omega arith
 
-    more : (k % 2 < 1 → ⊥) → 2 * (k / 2) + 1 ≡ k
-    more g = omega arith
+    odd-half : (k % 2 < 1 → ⊥) → 2 * (k / 2) + 1 ≡ k
+    odd-half g = omega arith
 
 module _ (size : ℕ) (even : size % 2 ≡ 0) where
   pub to-domain-below : (k : ℕ) → k < size → toDomain size k < size
@@ -125,29 +125,29 @@ coset-word-goes l k e h =
     ∙ ap (λ (m : ℕ). getD l m 0) (to-coset-to-domain (length l) e k h)
 
 pub coset-domain-coset : (l : List ℕ) → length l % 2 ≡ 0 → reordered (toDomain (length l)) (reordered (toCoset (length l)) l) ≡ l
-coset-domain-coset l e = undone (toDomain (length l)) (toCoset (length l)) l (to-domain-below (length l) e) (to-coset-to-domain (length l) e)
+coset-domain-coset l e = reordered-undone (toDomain (length l)) (toCoset (length l)) l (to-domain-below (length l) e) (to-coset-to-domain (length l) e)
 
 pub domain-coset-domain : (l : List ℕ) → length l % 2 ≡ 0 → reordered (toCoset (length l)) (reordered (toDomain (length l)) l) ≡ l
-domain-coset-domain l e = undone (toCoset (length l)) (toDomain (length l)) l (to-coset-below (length l) e) (to-domain-to-coset (length l) e)
+domain-coset-domain l e = reordered-undone (toCoset (length l)) (toDomain (length l)) l (to-coset-below (length l) e) (to-domain-to-coset (length l) e)
 
 -- ---- the in-place pair: each undoes itself, so word k goes to the place that it comes from
 
 pub bit-reversed-twice : (n : ℕ) (l : List ℕ) → length l ≡ 2 ^ n → reordered (reverseBits n) (reordered (reverseBits n) l) ≡ l
 bit-reversed-twice n l e =
-    undone (reverseBits n) (reverseBits n) l (λ i h. rw e (reversed-below n i)) (λ i h. reversed-back n i (subst (λ (m : ℕ). i < m) e h))
+    reordered-undone (reverseBits n) (reverseBits n) l (λ i h. rw e (reversed-below n i)) (λ i h. reversed-back n i (subst (λ (m : ℕ). i < m) e h))
 
 -- bit 0 stays; the bits above are reversed, and complemented where it is 1
-pub coset-even : (n x : ℕ) → x < 2 ^ n → cosetBitReversed (suc n) (2 * x) ≡ 2 * reverseBits n x
+pub coset-bits-even : (n x : ℕ) → x < 2 ^ n → cosetBitReversed (suc n) (2 * x) ≡ 2 * reverseBits n x
 unfolding cosetBitReversed
-coset-even n x h = ap (reverseBits (suc n)) (even-to-domain (2 ^ suc n) x) ∙ half-first n x h
+coset-bits-even n x h = ap (reverseBits (suc n)) (even-to-domain (2 ^ suc n) x) ∙ reversed-first-half n x h
 
-pub coset-odd : (n x : ℕ) → x < 2 ^ n → cosetBitReversed (suc n) (2 * x + 1) ≡ 2 ^ suc n - 1 - 2 * reverseBits n x
+pub coset-bits-odd : (n x : ℕ) → x < 2 ^ n → cosetBitReversed (suc n) (2 * x + 1) ≡ 2 ^ suc n - 1 - 2 * reverseBits n x
 unfolding cosetBitReversed
-coset-odd n x h =
-    let two : 2 ^ suc n ≡ 2 * 2 ^ n = N.pow-succ' 2 n in
+coset-bits-odd n x h =
+    let pow-doubled : 2 ^ suc n ≡ 2 * 2 ^ n = N.pow-succ' 2 n in
     let top : 2 ^ suc n - 1 - x ≡ 2 ^ n + (2 ^ n - 1 - x) = omega arith in
     ap (reverseBits (suc n)) (odd-to-domain (2 ^ suc n) x (omega arith) ∙ top)
-    ∙ half-second n (2 ^ n - 1 - x) (omega arith)
+    ∙ reversed-second-half n (2 ^ n - 1 - x) (omega arith)
     ∙ ap (λ (t : ℕ). 2 * t + 1) (reversed-complement n x h)
     ∙ omega (arith, reversed-below n x)
 
@@ -160,47 +160,47 @@ coset-bits-back zero k h = omega (arith, coset-bits-below 0 (cosetBitReversed 0 
 coset-bits-back (suc n) k h =
     by-parity (λ k. k < 2 ^ suc n → cosetBitReversed (suc n) (cosetBitReversed (suc n) k) ≡ k) even odd k h
   where
-    two : 2 ^ suc n ≡ 2 * 2 ^ n
-    two = N.pow-succ' 2 n
+    pow-doubled : 2 ^ suc n ≡ 2 * 2 ^ n
+    pow-doubled = N.pow-succ' 2 n
 
     even : (x : ℕ) → 2 * x < 2 ^ suc n → cosetBitReversed (suc n) (cosetBitReversed (suc n) (2 * x)) ≡ 2 * x
     even x h =
-        let b : x < 2 ^ n = omega (arith, two) in
-        ap (cosetBitReversed (suc n)) (coset-even n x b)
-        ∙ coset-even n (reverseBits n x) (reversed-below n x)
+        let b : x < 2 ^ n = omega (arith, pow-doubled) in
+        ap (cosetBitReversed (suc n)) (coset-bits-even n x b)
+        ∙ coset-bits-even n (reverseBits n x) (reversed-below n x)
         ∙ ap (λ (t : ℕ). 2 * t) (reversed-back n x b)
 
     odd : (x : ℕ) → 2 * x + 1 < 2 ^ suc n → cosetBitReversed (suc n) (cosetBitReversed (suc n) (2 * x + 1)) ≡ 2 * x + 1
     odd x h =
-        let b : x < 2 ^ n = omega (arith, two) in
+        let b : x < 2 ^ n = omega (arith, pow-doubled) in
         let r : reverseBits n x < 2 ^ n = reversed-below n x in
-        let shape : 2 ^ suc n - 1 - 2 * reverseBits n x ≡ 2 * (2 ^ n - 1 - reverseBits n x) + 1 = omega (arith, two) in
-        ap (cosetBitReversed (suc n)) (coset-odd n x b ∙ shape)
-        ∙ coset-odd n (2 ^ n - 1 - reverseBits n x) (omega arith)
+        let shape : 2 ^ suc n - 1 - 2 * reverseBits n x ≡ 2 * (2 ^ n - 1 - reverseBits n x) + 1 = omega (arith, pow-doubled) in
+        ap (cosetBitReversed (suc n)) (coset-bits-odd n x b ∙ shape)
+        ∙ coset-bits-odd n (2 ^ n - 1 - reverseBits n x) (omega arith)
         ∙ ap (λ (t : ℕ). 2 ^ suc n - 1 - 2 * t) (reversed-complement n (reverseBits n x) r ∙ ap (λ (t : ℕ). 2 ^ n - 1 - t) (reversed-back n x b))
-        ∙ omega (arith, two)
+        ∙ omega (arith, pow-doubled)
 
 pub coset-bits-twice : (n : ℕ) (l : List ℕ) → length l ≡ 2 ^ n → reordered (cosetBitReversed n) (reordered (cosetBitReversed n) l) ≡ l
 coset-bits-twice n l e =
-    undone (cosetBitReversed n) (cosetBitReversed n) l (λ i h. rw e (coset-bits-below n i)) (λ i h. coset-bits-back n i (subst (λ (m : ℕ). i < m) e h))
+    reordered-undone (cosetBitReversed n) (cosetBitReversed n) l (λ i h. rw e (coset-bits-below n i)) (λ i h. coset-bits-back n i (subst (λ (m : ℕ). i < m) e h))
 
 -- it is the copying call to domain order and then bit reversal
 pub coset-bits-composed : (n : ℕ) (l : List ℕ) → length l ≡ 2 ^ suc n → reordered (cosetBitReversed (suc n)) l ≡ reordered (reverseBits (suc n)) (reordered (toCoset (length l)) l)
 unfolding cosetBitReversed
-coset-bits-composed n l e = sym (reordered-twice (reverseBits (suc n)) (toCoset (length l)) (cosetBitReversed (suc n)) l (λ i h. rw e (reversed-below (suc n) i)) same)
+coset-bits-composed n l e = sym (reordered-twice (reverseBits (suc n)) (toCoset (length l)) (cosetBitReversed (suc n)) l (λ i h. rw e (reversed-below (suc n) i)) to-coset-reversed)
   where
-    there : (i : ℕ) → i < 2 ^ suc n → reverseBits (suc n) i ≡ toDomain (length l) (cosetBitReversed (suc n) i)
-    there i h =
+    reversed-is-to-domain : (i : ℕ) → i < 2 ^ suc n → reverseBits (suc n) i ≡ toDomain (length l) (cosetBitReversed (suc n) i)
+    reversed-is-to-domain i h =
         let c = cosetBitReversed (suc n) i in
         let d : toDomain (2 ^ suc n) c < 2 ^ suc n = to-domain-below (2 ^ suc n) (omega (arith, N.pow-succ' 2 n)) c (coset-bits-below (suc n) i) in
         ap (reverseBits (suc n)) (sym (coset-bits-back (suc n) i h))
         ∙ reversed-back (suc n) (toDomain (2 ^ suc n) c) d
         ∙ ap (λ (t : ℕ). toDomain t c) (sym e)
 
-    same : (i : ℕ) → i < length l → toCoset (length l) (reverseBits (suc n) i) ≡ cosetBitReversed (suc n) i
-    same i h =
+    to-coset-reversed : (i : ℕ) → i < length l → toCoset (length l) (reverseBits (suc n) i) ≡ cosetBitReversed (suc n) i
+    to-coset-reversed i h =
         let even : length l % 2 ≡ 0 = omega (arith, e, N.pow-succ' 2 n) in
         let c = cosetBitReversed (suc n) i in
         let b : c < 2 ^ suc n = coset-bits-below (suc n) i in
-        let back : reverseBits (suc n) i ≡ toDomain (length l) c = there i (subst (λ (m : ℕ). i < m) e h) in
+        let back : reverseBits (suc n) i ≡ toDomain (length l) c = reversed-is-to-domain i (subst (λ (m : ℕ). i < m) e h) in
         ap (toCoset (length l)) back ∙ to-coset-to-domain (length l) even c (rw e b)

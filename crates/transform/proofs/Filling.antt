@@ -15,7 +15,7 @@ use Rattle.fields.specs.Words.{addP, subP, mulP, words31}
 use Rattle.fields.specs.Inverse.{m31-representation}
 use Rattle.circle.specs.Index.{indexPoint}
 use Rattle.circle.specs.IndexPoints.{index-below}
-use Rattle.domains.specs.BitReversed.{halfIndex, halfPoint, half-further, half-index-start, half-turned}
+use Rattle.domains.specs.BitReversed.{halfIndex, halfPoint, half-further, half-index-start, half-add-quarter}
 use Rattle.domains.specs.Doubled.{half-double-x}
 use Rattle.transform.specs.Tree.{LinesFrom, LineTree, pointAt, Points, Extended, Doubled}
 use Rattle.transform.specs.Twiddles.{even-or-odd}
@@ -233,7 +233,7 @@ module _ (n : ℕ) (tree : List ℕ) (given : (3 ≤ n) × (n ≤ 30) × (2 * le
             ap (λ (j : ℕ). getD level j 0) left ∙ ap (λ (q : ℕ × ℕ). q .0) (p .each c (h .1)) ∙ ap (λ (j : ℕ). halfPoint n j .0) (omega arith))
             (λ e.
             let right : b ≡ 2 * c + 1 = omega arith in
-            ap (λ (j : ℕ). getD level j 0) right ∙ ap (λ (q : ℕ × ℕ). q .1) (p .each c (h .1)) ∙ sym (ap (λ (q : ℕ × ℕ). q .0) (half-turned n c (given .0) (given .1)))
+            ap (λ (j : ℕ). getD level j 0) right ∙ ap (λ (q : ℕ × ℕ). q .1) (p .each c (h .1)) ∙ sym (ap (λ (q : ℕ × ℕ). q .0) (half-add-quarter n c (given .0) (given .1)))
             ∙ ap (λ (j : ℕ). halfPoint n j .0) (omega arith))
 
     module _ (filled : List ℕ) (long : length filled ≡ length with-level) where

@@ -111,10 +111,10 @@ module _ (w v : ℕ) (block l : List ℕ) (size : length block ≡ 4) (e : lengt
       ∙ four-equal e0 e1 (e2 ∙ sym (sum-negative v (lowerDifference w l) (upperDifference w l))) (e3 ∙ sym (difference-negative v (lowerDifference w l) (upperDifference w l)))
       ∙ sym (evaluate-four w v (negP v) l e)
 
-  pub turned-evaluated : r0 ≡ butterflyDifference words31 v (lowerSum w l) (upperSum w l) → r1 ≡ butterflySum words31 v (lowerSum w l) (upperSum w l)
+  pub negated-evaluated : r0 ≡ butterflyDifference words31 v (lowerSum w l) (upperSum w l) → r1 ≡ butterflySum words31 v (lowerSum w l) (upperSum w l)
       → r2 ≡ butterflySum words31 v (lowerDifference w l) (upperDifference w l) → r3 ≡ butterflyDifference words31 v (lowerDifference w l) (upperDifference w l)
       → set (set (set (set block 0 r0) 1 r1) 2 r2) 3 r3 ≡ evaluateBlock words31 2 (pairTwiddle w (negP v) v) 0 l
-  turned-evaluated e0 e1 e2 e3 =
+  negated-evaluated e0 e1 e2 e3 =
       written block size r0 r1 r2 r3
       ∙ four-equal (e0 ∙ sym (sum-negative v (lowerSum w l) (upperSum w l))) (e1 ∙ sym (difference-negative v (lowerSum w l) (upperSum w l))) e2 e3
       ∙ sym (evaluate-four w (negP v) v l e)
@@ -176,17 +176,17 @@ module _ (w v : ℕ) (l : List ℕ) (e : length l ≡ 4) (r0 r1 r2 r3 : ℕ) whe
       → r2 ≡ inverseDifference words31 w (firstSum l) (secondSum l) → r3 ≡ inverseDifference words31 w (firstDifference v l) (secondNegative v l)
       → set (set (set (set l 0 r0) 1 r1) 2 r2) 3 r3 ≡ interpolateBlock words31 2 (pairTwiddle w v (negP v)) 0 l
   four-interpolated e0 e1 e2 e3 =
-      let turned : secondNegative v l ≡ secondDifference (negP v) l = sym (inverse-negative v (getD l 2 0) (getD l 3 0)) in
+      let negated : secondNegative v l ≡ secondDifference (negP v) l = sym (inverse-negative v (getD l 2 0) (getD l 3 0)) in
       written l e r0 r1 r2 r3
-      ∙ four-equal e0 (e1 ∙ ap (inverseSum words31 (firstDifference v l)) turned) e2 (e3 ∙ ap (inverseDifference words31 w (firstDifference v l)) turned)
+      ∙ four-equal e0 (e1 ∙ ap (inverseSum words31 (firstDifference v l)) negated) e2 (e3 ∙ ap (inverseDifference words31 w (firstDifference v l)) negated)
       ∙ sym (interpolate-four w v (negP v) l e)
 
-  pub turned-interpolated : r0 ≡ inverseSum words31 (firstSum l) (secondSum l) → r1 ≡ inverseSum words31 (firstNegative v l) (secondDifference v l)
+  pub negated-interpolated : r0 ≡ inverseSum words31 (firstSum l) (secondSum l) → r1 ≡ inverseSum words31 (firstNegative v l) (secondDifference v l)
       → r2 ≡ inverseDifference words31 w (firstSum l) (secondSum l) → r3 ≡ inverseDifference words31 w (firstNegative v l) (secondDifference v l)
       → set (set (set (set l 0 r0) 1 r1) 2 r2) 3 r3 ≡ interpolateBlock words31 2 (pairTwiddle w (negP v) v) 0 l
-  turned-interpolated e0 e1 e2 e3 =
-      let turned : firstNegative v l ≡ firstDifference (negP v) l = sym (inverse-negative v (getD l 0 0) (getD l 1 0)) in
+  negated-interpolated e0 e1 e2 e3 =
+      let negated : firstNegative v l ≡ firstDifference (negP v) l = sym (inverse-negative v (getD l 0 0) (getD l 1 0)) in
       written l e r0 r1 r2 r3
-      ∙ four-equal e0 (e1 ∙ ap (λ (m : ℕ). inverseSum words31 m (secondDifference v l)) turned) e2
-      (e3 ∙ ap (λ (m : ℕ). inverseDifference words31 w m (secondDifference v l)) turned)
+      ∙ four-equal e0 (e1 ∙ ap (λ (m : ℕ). inverseSum words31 m (secondDifference v l)) negated) e2
+      (e3 ∙ ap (λ (m : ℕ). inverseDifference words31 w m (secondDifference v l)) negated)
       ∙ sym (interpolate-four w (negP v) v l e)

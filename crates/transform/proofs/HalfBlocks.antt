@@ -55,14 +55,14 @@ module _ (c tree : List ℕ) (i k : ℕ) (b : Block c tree i k) (big : 14 < k) (
   less : k ≡ suc (k - 1)
   less = omega arith
 
-  power : 2 ^ k ≡ 2 ^ (k - 1) + 2 ^ (k - 1)
-  power = ap (λ (n : ℕ). 2 ^ n) less ∙ N.two-pow-succ (k - 1)
+  pow-two-halves : 2 ^ k ≡ 2 ^ (k - 1) + 2 ^ (k - 1)
+  pow-two-halves = ap (λ (n : ℕ). 2 ^ n) less ∙ N.two-pow-succ (k - 1)
 
   pub half-power : half ≡ 2 ^ (k - 1)
-  half-power = omega (arith, power, b .size)
+  half-power = omega (arith, pow-two-halves, b .size)
 
   pub halves-size : length c ≡ half + half
-  halves-size = omega (arith, power, half-power, b .size)
+  halves-size = omega (arith, pow-two-halves, half-power, b .size)
 
   pub node-room : i < length tree
   node-room = omega (arith, b .room, N.mul-le-mul-left (i + 1) (W.pow-mono {i = 2} {j = k} (omega arith)))
@@ -72,7 +72,7 @@ module _ (c tree : List ℕ) (i k : ℕ) (b : Block c tree i k) (big : 14 < k) (
       omega (
         arith,
         b .room,
-        ap (λ (n : ℕ). (i + 1) * n) power,
+        ap (λ (n : ℕ). (i + 1) * n) pow-two-halves,
         N.mul-le-mul-right {m = j + 1} {n = 2 * (i + 1)} (2 ^ (k - 1)) (omega arith),
       )
 
@@ -119,7 +119,7 @@ module _ (c tree : List ℕ) (i k : ℕ) (b : Block c tree i k) (big : 14 < k) (
           ∙ ap (evaluateBlock words31 (k - 1) (nodeTwiddle tree) (2 * i + 1)) (reduced-drop half column))
           ∙ ap (twoBlocks half (evaluateBlock words31 (k - 1) (nodeTwiddle tree)) i) is
           ∙ ap₂ (λ (h w : ℕ). twoBlocks h (evaluateBlock words31 (k - 1) (nodeTwiddle tree)) i (butterflies words31 h w c)) half-power (line-node tree (k - 1) i (omega arith))
-          ∙ layer-block words31 (nodeTwiddle tree) (k - 1) i c (b .size ∙ power)
+          ∙ layer-block words31 (nodeTwiddle tree) (k - 1) i c (b .size ∙ pow-two-halves)
           ∙ ap (λ (n : ℕ). evaluateBlock words31 n (nodeTwiddle tree) i c) (sym less)
 
   -- ---- interpolation: the halves, then the inverse butterflies
@@ -166,5 +166,5 @@ module _ (c tree : List ℕ) (i k : ℕ) (b : Block c tree i k) (big : 14 < k) (
           ∙ butterflies-multiple half (getD tree i 0) t blocks
           ∙ ap (scaled words31 t)
           (ap₂ (λ (h w : ℕ). inverseButterflies words31 h w (twoBlocks h (interpolateBlock words31 (k - 1) (nodeTwiddle tree)) i c)) half-power (line-node tree (k - 1) i (omega arith))
-          ∙ inverse-block words31 (nodeTwiddle tree) (k - 1) i c (b .size ∙ power)
+          ∙ inverse-block words31 (nodeTwiddle tree) (k - 1) i c (b .size ∙ pow-two-halves)
           ∙ ap (λ (n : ℕ). interpolateBlock words31 n (nodeTwiddle tree) i c) (sym less))

@@ -15,14 +15,14 @@ use Rattle.fields.specs.Representation.{solveWords}
 use Rattle.fields.specs.Inverse.{m31-representation}
 use Rattle.transform.specs.Tree.{Words, beside, Invertible, Inverted}
 use Rattle.transform.specs.Twiddles.{even-or-odd}
-use Rattle.transform.specs.TreeLaws.{signs}
+use Rattle.transform.specs.TreeLaws.{neg-mul-neg}
 use Rattle.transform.proofs.Pairs.{written, written-length, written-first, written-second, written-below, written-above}
 
 pub twice-sum : (r q y s : ℕ) → r ≡ addP q q → q ≡ mulP y s → (r ≡ mulP 2 (mulP y s)) × (r < P)
-twice-sum r q y s e f = (e ∙ sum q ∙ ap (mulP 2) f, omega arith)
+twice-sum r q y s e f = (e ∙ add-self-two q ∙ ap (mulP 2) f, omega arith)
   where
-    sum : (q : ℕ) → addP q q ≡ mulP 2 q
-    sum q = omega arith
+    add-self-two : (q : ℕ) → addP q q ≡ mulP 2 q
+    add-self-two q = omega arith
 
 pub even-beside : (tree : List ℕ) (i : ℕ) → i % 2 ≡ 0 → getD tree (i + 1) 0 ≡ beside tree i
 even-beside tree i e = sym (ap (λ (t : Bool). cond t (getD tree (i + 1) 0) (negP (getD tree (i - 1) 0))) (eq-eqb (i % 2) 0 e))
@@ -90,7 +90,7 @@ module _ {tree : List ℕ} (t : Invertible tree) where
         (λ e. sym (ap₂ mulP (even-beside now i e) (even-beside tree i e)) ∙ v .done (i + 1) (omega arith))
         (λ e.
         let odd : i % 2 ≡ 0 → ⊥ = λ z. omega arith in
-        sym (ap₂ mulP (odd-beside now i odd) (odd-beside tree i odd)) ∙ signs (getD now (i - 1) 0) (getD tree (i - 1) 0) ∙ v .done (i - 1) (omega arith))
+        sym (ap₂ mulP (odd-beside now i odd) (odd-beside tree i odd)) ∙ neg-mul-neg (getD now (i - 1) 0) (getD tree (i - 1) 0) ∙ v .done (i - 1) (omega arith))
 
     -- the children x and y of node i, where 2xy is beside it and s its inverse: 2ys x = 1 and 2xs y = 1
     pub children-inverted : (s a b : ℕ) → 0 < i → 2 * i + 1 < length now → s ≡ beside now i

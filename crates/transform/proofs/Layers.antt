@@ -10,7 +10,7 @@ use lib.Pow as W
 use Rattle.fields.specs.Words.{negP, words31}
 use Rattle.column.specs.Butterflies.{butterflies, evaluateBlock}
 use Rattle.column.specs.Blocks.{blocks, blocks-length, blocks-equal, blocks-pair, twoBlocks, one-block, butterflies-length, evaluate-layer}
-use Rattle.transform.specs.Tree.{turned, nodeTwiddle, pairTwiddle, evaluateEight, Block}
+use Rattle.transform.specs.Tree.{circleTwiddle, nodeTwiddle, pairTwiddle, evaluateEight, Block}
 use Rattle.transform.proofs.Fours.{evaluate-two-layers}
 
 -- ---- sizes
@@ -77,12 +77,12 @@ module _ (tree : List ℕ) (i k : ℕ) where
 
 -- ---- the twiddles of the pairs
 
-node-turned : (tree : List ℕ) (j r m : ℕ) → m ≡ 4 * j + r → r < 4 → nodeTwiddle tree 0 m ≡ turned r (getD tree (2 * j) 0) (getD tree (2 * j + 1) 0)
+node-circle-twiddle : (tree : List ℕ) (j r m : ℕ) → m ≡ 4 * j + r → r < 4 → nodeTwiddle tree 0 m ≡ circleTwiddle r (getD tree (2 * j) 0) (getD tree (2 * j + 1) 0)
 unfolding nodeTwiddle
-node-turned tree j r m e h =
-    let rest : m % 4 ≡ r = omega arith in
-    let quotient : m / 4 ≡ j = omega arith in
-    ap₂ (λ (s q : ℕ). turned s (getD tree (2 * q) 0) (getD tree (2 * q + 1) 0)) rest quotient
+node-circle-twiddle tree j r m e h =
+    let node-mod-4 : m % 4 ≡ r = omega arith in
+    let node-div-4 : m / 4 ≡ j = omega arith in
+    ap₂ (λ (s q : ℕ). circleTwiddle s (getD tree (2 * q) 0) (getD tree (2 * q + 1) 0)) node-mod-4 node-div-4
 
 module _ (tree : List ℕ) (j : ℕ) where
   abbrev pub x : ℕ
@@ -101,14 +101,14 @@ module _ (tree : List ℕ) (j : ℕ) where
     pub y-second : pairTwiddle y (negP x) x 0 (2 * 0 + 1) ≡ nodeTwiddle tree 0 (2 * (2 * j + 1) + 1)
 
   pub siblings : Siblings
-  unfolding pairTwiddle nodeTwiddle turned
+  unfolding pairTwiddle nodeTwiddle circleTwiddle
   siblings = record {
     x-fours = refl;
-    x-first = sym (node-turned tree j 0 (2 * (2 * j)) (omega arith) (omega arith));
-    x-second = sym (node-turned tree j 1 (2 * (2 * j) + 1) (omega arith) (omega arith));
+    x-first = sym (node-circle-twiddle tree j 0 (2 * (2 * j)) (omega arith) (omega arith));
+    x-second = sym (node-circle-twiddle tree j 1 (2 * (2 * j) + 1) (omega arith) (omega arith));
     y-fours = refl;
-    y-first = sym (node-turned tree j 2 (2 * (2 * j + 1)) (omega arith) (omega arith));
-    y-second = sym (node-turned tree j 3 (2 * (2 * j + 1) + 1) (omega arith) (omega arith));
+    y-first = sym (node-circle-twiddle tree j 2 (2 * (2 * j + 1)) (omega arith) (omega arith));
+    y-second = sym (node-circle-twiddle tree j 3 (2 * (2 * j + 1) + 1) (omega arith) (omega arith));
   }
 
 evaluate-siblings : (tree : List ℕ) (j : ℕ) (d : List ℕ) → evaluateEight (getD tree (2 * j) 0) (getD tree (2 * j + 1) 0) d ≡ twoBlocks 4 (evaluateBlock words31 2 (nodeTwiddle tree)) j d

@@ -42,19 +42,19 @@ module _ (a s : ℕ) (h : a ≤ P) (hi : s < 31) where
       let small : lower * 2 ^ s < 2147483648 = omega (arith, N.mul-lt-mul-of-pos-right (N.mod-lt a (W.pow-pos (31 - s))) (W.pow-pos s), powers) in
       W.mod-mod-pow (a * 2 ^ s) 1 31 ∙ ap (λ (n : ℕ). n % 2147483648) product ∙ digits-mod upper small
 
-  -- the bits turned by s places
-  abbrev turned : ℕ
-  turned = a * 2 ^ s % 4294967296 % 2147483648 + a / 2 ^ (31 - s)
+  -- the bits rotated by s places
+  abbrev rotated : ℕ
+  rotated = a * 2 ^ s % 4294967296 % 2147483648 + a / 2 ^ (31 - s)
 
-  pub turned-most : turned ≤ P
-  turned-most =
+  pub rotated-most : rotated ≤ P
+  rotated-most =
       let bits : 31 ≡ s + (31 - s) = omega arith in
       let high : upper < 2 ^ s = W.shr-lt s (31 - s) (rw (← bits) (omega arith)) in
       let low : suc lower ≤ 2 ^ (31 - s) = N.mod-lt a (W.pow-pos (31 - s)) in
       omega (arith, shifted, N.mul-le-mul-right {m = suc lower} {n = 2 ^ (31 - s)} (2 ^ s) low, N.suc-mul lower (2 ^ s), powers)
 
-  pub turned-bits : turned % P ≡ mulP a (2 ^ s)
-  turned-bits =
+  pub rotated-bits : rotated % P ≡ mulP a (2 ^ s)
+  rotated-bits =
       let once : upper * 2147483648 + lower * 2 ^ s ≡ upper * P + (lower * 2 ^ s + upper) = omega arith in
       ap (λ (n : ℕ). (n + upper) % P) shifted ∙ sym (ap (λ (n : ℕ). n % P) (product ∙ once) ∙ N.mul-add-mod-self-right upper P (lower * 2 ^ s + upper))
 

@@ -15,12 +15,12 @@ use Rattle.circle.specs.IndexPoints.{index-below}
 use Rattle.domains.specs.BitReversed.{halfIndex, halfPoint, half-index-start, half-neighbour, half-point-one}
 use Rattle.domains.specs.Doubled.{half-two}
 use Rattle.column.specs.Butterflies.{butterflies, evaluateBlock, inverseButterflies, interpolateBlock, scaled}
-use Rattle.column.specs.Tree.{Holds}
+use Rattle.column.specs.Tree.{HoldsTwiddles}
 use Rattle.transform.specs.Transform.{valuesOf, Column}
 use Rattle.transform.specs.Tree.{PartlyReduced, reducedWords, pairTwiddle, Unscaled}
 use Rattle.transform.specs.Twiddles.{twiddle}
 use Rattle.transform.specs.Elements.{column-words, tree-values, tree-coefficients}
-use Rattle.transform.specs.TreeLaws.{neg-neg, signs, holds-inverse, root-square}
+use Rattle.transform.specs.TreeLaws.{neg-neg, neg-mul-neg, holds-inverse, root-square}
 use Rattle.transform.proofs.WordLaws.{words-evaluate, words-inverse, words-scaled}
 use Rattle.transform.proofs.Partly.{partly-words, reduced-same}
 use Rattle.transform.proofs.Scaling.{scaled-reduced}
@@ -28,7 +28,7 @@ use Rattle.transform.proofs.Fours.{evaluate-two-layers, interpolate-two
 
 -- ---- one pair
 
-two-holds : Holds words31 1 (λ t i. P - 1) (twiddle 1)
+two-holds : HoldsTwiddles words31 1 (λ t i. P - 1) (twiddle 1)
 unfolding twiddle
 two-holds zero d e i h = sym (ap (λ (p : ℕ × ℕ). p .1) (half-point-one i))
 two-holds (suc t) d e i h = absurd (omega arith)
@@ -74,7 +74,7 @@ module _ (x : ℕ) (is : x ≡ halfPoint 2 0 .0) where
   second-y : x ≡ halfPoint 2 1 .1
   second-y = sym (ap (λ (p : ℕ × ℕ). p .1) (half-neighbour 2 0 (omega arith) (omega arith)) ∙ ap negP (sym first-y) ∙ neg-neg x x-word)
 
-  pub four-holds : Holds words31 2 (pairTwiddle x (negP x) x) (twiddle 2)
+  pub four-holds : HoldsTwiddles words31 2 (pairTwiddle x (negP x) x) (twiddle 2)
   unfolding pairTwiddle twiddle
   four-holds zero zero e i h = absurd (omega arith)
   four-holds zero (suc zero) e zero h = first-y
@@ -101,7 +101,7 @@ module _ (x : ℕ) (is : x ≡ halfPoint 2 0 .0) where
       → mulP (pairTwiddle (addP x x) (negP (addP x x)) (addP x x) s (2 ^ d + j)) (pairTwiddle x (negP x) x s (2 ^ d + j)) ≡ 1
   unfolding pairTwiddle
   four-inverse zero zero e j h = absurd (omega arith)
-  four-inverse zero (suc zero) e zero h = signs (addP x x) x ∙ doubled-inverse
+  four-inverse zero (suc zero) e zero h = neg-mul-neg (addP x x) x ∙ doubled-inverse
   four-inverse zero (suc zero) e (suc zero) h = doubled-inverse
   four-inverse zero (suc zero) e (suc (suc j)) h = absurd (omega arith)
   four-inverse zero (suc (suc d)) e j h = absurd (omega arith)

@@ -27,8 +27,8 @@ pub record Accepted (n : ℕ) (column : List ℕ) (scratch : ℕ) : Type 0 where
 
 -- ---- proof
 
-written : (why : Refusal) → Refused why ≡ Written → ⊥
-written why e = let never : _≡_ {A = ℕ} 0 1 = cc in omega arith
+refused-not-written : (why : Refusal) → Refused why ≡ Written → ⊥
+refused-not-written why e = let never : _≡_ {A = ℕ} 0 1 = cc in omega arith
 
 module _ (n : ℕ) (column : List ℕ) (scratch : ℕ) where
   pub is-accepted : Accepted n column scratch → transformAnswer n column scratch ≡ Written
@@ -47,7 +47,7 @@ module _ (n : ℕ) (column : List ℕ) (scratch : ℕ) where
   unfolding transformAnswer
   accepted e =
       let first = hold-split (need (isLogSize n) LogSize) (lengths n column scratch ++ words column)
-      (accepted-hold (need (isLogSize n) LogSize ++ (lengths n column scratch ++ words column)) Refused Written written e) in
+      (accepted-hold (need (isLogSize n) LogSize ++ (lengths n column scratch ++ words column)) Refused Written refused-not-written e) in
       let rest = hold-split (lengths n column scratch) (words column) (first .1) in
       let sizes = hold-split (need _ Length) (need _ Length) (rest .0) in
       let range = log-size-fits n (first .0 .0) in

@@ -10,7 +10,7 @@ use lib.ListN.{length, length-map, List·getD-eq-default}
 use lib.Pow as W
 use Rattle.algebra.specs.Ring.{two}
 use Rattle.algebra.specs.Power.{pow}
-use Rattle.algebra.specs.ZMod.{Z, residue-val, val-residue, mul-mod-mod, below}
+use Rattle.algebra.specs.ZMod.{Z, residue-val, val-residue, mul-mod-mod, val-below}
 use Rattle.algebra.specs.M31.{P, P-pos, m31, m31-laws, m31-field, element}
 use Rattle.algebra.specs.Homomorphism.{onPair}
 use Rattle.fields.specs.Words.{mulP, powP, words31}
@@ -23,7 +23,7 @@ use Rattle.column.specs.Butterflies.{evaluateBlock, interpolateBlock, scaled}
 use Rattle.column.specs.Inverse.{Inverses}
 use Rattle.column.specs.OneList.{OneList, Twiddles, values-length, values-at, evaluate-values, interpolation-length, values-interpolation, one-list}
 use Rattle.column.specs.Homomorphism.{to-factor, to-values, to-way, to-evaluate, to-interpolate, to-scaled}
-use Rattle.column.specs.Tree.{Holds, tree-evaluate, tree-interpolate}
+use Rattle.column.specs.Tree.{HoldsTwiddles, tree-evaluate, tree-interpolate}
 use Rattle.transform.specs.Transform.{positionPoint, valuesOf, Column, Coefficients}
 use Rattle.transform.specs.Tree.{Words}
 use Rattle.transform.specs.Twiddles.{twiddle, domain-twiddles}
@@ -49,7 +49,7 @@ elements-words (x ∷ c) = ap₂ _∷_ (residue-val P P-pos x) (elements-words c
 
 pub words-below : (c : List (Z P)) → Words (words c)
 words-below [] k = P-pos
-words-below (x ∷ c) zero = below x
+words-below (x ∷ c) zero = val-below x
 words-below (x ∷ c) (suc k) = words-below c k
 
 pub column-words : (n : ℕ) (c : List ℕ) → Column n c → Words c
@@ -114,18 +114,18 @@ module _ (n : ℕ) (lo : 1 ≤ n) (hi : n ≤ 30) where
       ap (m31 .mul (element (halved n)))
       (ap (λ (a : Z P). pow m31 a n) (sym (element-homomorphism .to-add 1 1)) ∙ sym (element-pow 2 n))
       ∙ sym (element-homomorphism .to-mul (halved n) (powP 2 n))
-      ∙ ap element whole
+      ∙ ap element halved-times-power
     where
       sum-bits : 31 - n + n ≡ 31
       sum-bits = omega arith
 
-      whole : mulP (halved n) (powP 2 n) ≡ 1
-      whole = mul-mod-mod (halved n) (2 ^ n) P ∙ ap (λ (a : ℕ). a % P) (sym (W.pow-add 2 (31 - n) n) ∙ ap (λ (a : ℕ). 2 ^ a) sum-bits)
+      halved-times-power : mulP (halved n) (powP 2 n) ≡ 1
+      halved-times-power = mul-mod-mod (halved n) (2 ^ n) P ∙ ap (λ (a : ℕ). a % P) (sym (W.pow-add 2 (31 - n) n) ∙ ap (λ (a : ℕ). 2 ^ a) sum-bits)
 
   -- ---- evaluation and interpolation of words
 
   module _ (tree : ℕ → ℕ → ℕ) where
-    pub tree-values : Holds words31 n tree (twiddle n) → (c : List ℕ) → length c ≡ 2 ^ n → Words (evaluateBlock words31 n tree 1 c)
+    pub tree-values : HoldsTwiddles words31 n tree (twiddle n) → (c : List ℕ) → length c ≡ 2 ^ n → Words (evaluateBlock words31 n tree 1 c)
         → evaluateBlock words31 n tree 1 c ≡ valuesOf n c
     tree-values holds c e w =
         words-equal (evaluateBlock words31 n tree 1 c) (valuesOf n c) w (values-below n c)
@@ -134,7 +134,7 @@ module _ (n : ℕ) (lo : 1 ≤ n) (hi : n ≤ 30) where
         ∙ evaluate-values m31 m31-laws n (fieldPoint n) (fieldTwiddle n) field-twiddles (elements c) (length-map c element ∙ e)
         ∙ sym (elements-values n c))
 
-    pub tree-coefficients : Holds m31 n (λ t i. element (tree t i)) (fieldInverse n) → (v r : List ℕ) → Column n v
+    pub tree-coefficients : HoldsTwiddles m31 n (λ t i. element (tree t i)) (fieldInverse n) → (v r : List ℕ) → Column n v
         → r ≡ scaled words31 (halved n) (interpolateBlock words31 n tree 1 v) → Words r → Coefficients n r v
     tree-coefficients holds v r h e w = record {
       column = record { size = sym (length-map r element) ∙ ap length is ∙ interpolation-length m31 m31-laws n (fieldPoint n) (fieldTwiddle n) field-twiddles (fieldInverse n) field-inverses (element (halved n)) halved-inverse (elements v) size; below = λ k l. w k };

@@ -89,9 +89,9 @@ unfolding multiple
 zero-index = refl
 
 -- 2^30 G = (P - 1, 0)
-pub half-turn : toPointAnswer (ofIndex (2 ^ 30)) ≡ P.Value (ofPoint (P - 1, 0))
+pub half-order-point : toPointAnswer (ofIndex (2 ^ 30)) ≡ P.Value (ofPoint (P - 1, 0))
 unfolding toPointAnswer
-half-turn = ap (λ (p : ℕ × ℕ). P.Value (ofPoint p)) (index-antipode 0 ∙ ap (antipode words31) zero-index)
+half-order-point = ap (λ (p : ℕ × ℕ). P.Value (ofPoint p)) (index-antipode 0 ∙ ap (antipode words31) zero-index)
 
 -- ---- cosets and domains
 
@@ -164,13 +164,13 @@ unfolding isCanonicAnswer halfOf cosetOf
 not-canonic = hold-passes (check (halfOf 1)) B.Refused _ (fits-hold (cosetOf (2 ^ 29) 0) (made-fits (2 ^ 29) 0 (lit≤ tt) (lit≤ tt)))
 
 -- the numbers that are compared: 4 times its initial index, reduced, is 0, and its step is 2^31
-pub fourfold : (halfOf 1 .«initial_index» .0 * 4) % 2 ^ 31 ≡ 0
+pub four-times-initial : (halfOf 1 .«initial_index» .0 * 4) % 2 ^ 31 ≡ 0
 unfolding halfOf cosetOf
-fourfold = refl
+four-times-initial = refl
 
-pub its-step : halfOf 1 .«step_size» .0 ≡ 2 ^ 31
+pub step-of-domain-one : halfOf 1 .«step_size» .0 ≡ 2 ^ 31
 unfolding halfOf cosetOf
-its-step = refl
+step-of-domain-one = refl
 
 -- ---- orders
 
@@ -207,19 +207,19 @@ u-squared = refl
 -- ---- transform
 
 -- a constant has its value everywhere
-constant : (a : ℕ) (p : ℕ × ℕ) → a < P → value words31 2 (a ∷ 0 ∷ 0 ∷ 0 ∷ []) p ≡ a
+constant-value : (a : ℕ) (p : ℕ × ℕ) → a < P → value words31 2 (a ∷ 0 ∷ 0 ∷ 0 ∷ []) p ≡ a
 unfolding combination sum product
-constant a p h = simp (N.zero-mul, N.mul-one) (omega arith)
+constant-value a p h = simp (N.zero-mul, N.mul-one) (omega arith)
 
-sevens : Coefficients 2 (7 ∷ 0 ∷ 0 ∷ 0 ∷ []) (7 ∷ 7 ∷ 7 ∷ 7 ∷ [])
+sevens-coefficients : Coefficients 2 (7 ∷ 0 ∷ 0 ∷ 0 ∷ []) (7 ∷ 7 ∷ 7 ∷ 7 ∷ [])
 unfolding values listing
-sevens = record {
+sevens-coefficients = record {
   column = record { size = refl; below = below };
   give = λ i. seven 0 i ∷ seven 1 i ∷ seven 2 i ∷ seven 3 i ∷ [];
 }
   where
     seven : (p : ℕ) → value words31 2 (7 ∷ 0 ∷ 0 ∷ 0 ∷ []) (positionPoint 2 p) ≡ 7
-    seven p = constant 7 (positionPoint 2 p) (lit< tt)
+    seven p = constant-value 7 (positionPoint 2 p) (lit< tt)
 
     below : (k : ℕ) → k < 4 → getD (7 ∷ 0 ∷ 0 ∷ 0 ∷ []) k 0 < P
     below zero h = lit< tt
@@ -246,7 +246,7 @@ sevens-accepted scratch room =
 
 pub sevens-interpolated : (scratch : ℕ) (exit : List ℕ) → transformAnswer 2 (7 ∷ 7 ∷ 7 ∷ 7 ∷ []) scratch ≡ Written
     → InterpolateExit (transformAnswer 2 (7 ∷ 7 ∷ 7 ∷ 7 ∷ []) scratch) 2 (7 ∷ 7 ∷ 7 ∷ 7 ∷ []) exit → exit ≡ 7 ∷ 0 ∷ 0 ∷ 0 ∷ []
-sevens-interpolated scratch exit e left = promise .interpolated scratch exit e left ∙ sym (promise .only (7 ∷ 0 ∷ 0 ∷ 0 ∷ []) sevens)
+sevens-interpolated scratch exit e left = promise .interpolated scratch exit e left ∙ sym (promise .only (7 ∷ 0 ∷ 0 ∷ 0 ∷ []) sevens-coefficients)
   where
     promise : Promise 2 (7 ∷ 7 ∷ 7 ∷ 7 ∷ [])
     promise = theorem 2 (lit≤ tt) (lit≤ tt) (7 ∷ 7 ∷ 7 ∷ 7 ∷ []) four-sevens

@@ -37,15 +37,15 @@ pub record LineTree (n : ℕ) (tree : List ℕ) : Type 0 where
   pub copied : getD tree 0 0 ≡ getD tree 1 0
 
 -- the twiddles of the four pairs below the nodes that hold x and y: y, -y, -x, x
-unfoldable pub turned : ℕ → ℕ → ℕ → ℕ
-turned zero x y = y
-turned (suc zero) x y = negP y
-turned (suc (suc zero)) x y = negP x
-turned (suc (suc (suc r))) x y = x
+unfoldable pub circleTwiddle : ℕ → ℕ → ℕ → ℕ
+circleTwiddle zero x y = y
+circleTwiddle (suc zero) x y = negP y
+circleTwiddle (suc (suc zero)) x y = negP x
+circleTwiddle (suc (suc (suc r))) x y = x
 
 -- the twiddle of node i for blocks of 2^(t + 1) words; those of pairs aren't stored
 unfoldable pub nodeTwiddle : List ℕ → ℕ → ℕ → ℕ
-nodeTwiddle tree zero i = turned (i % 4) (getD tree (2 * (i / 4)) 0) (getD tree (2 * (i / 4) + 1) 0)
+nodeTwiddle tree zero i = circleTwiddle (i % 4) (getD tree (2 * (i / 4)) 0) (getD tree (2 * (i / 4) + 1) 0)
 nodeTwiddle tree (suc t) i = getD tree i 0
 
 -- the y of the point whose x stands at node i

@@ -18,10 +18,10 @@ use Rattle.fields.specs.Elements.{element-homomorphism}
 use Rattle.fields.specs.Representation.{solveWords}
 use Rattle.fields.specs.Inverse.{m31-representation}
 use Rattle.circle.specs.IndexPoints.{index-below}
-use Rattle.domains.specs.BitReversed.{halfIndex, halfPoint, half-neighbour, half-turned, half-point-one}
+use Rattle.domains.specs.BitReversed.{halfIndex, halfPoint, half-neighbour, half-add-quarter, half-point-one}
 use Rattle.domains.specs.Doubled.{half-double-x, half-double-y, half-two}
-use Rattle.column.specs.Tree.{Holds}
-use Rattle.transform.specs.Tree.{Words, LineTree, turned, nodeTwiddle, beside, Invertible, Inverted}
+use Rattle.column.specs.Tree.{HoldsTwiddles}
+use Rattle.transform.specs.Tree.{Words, LineTree, circleTwiddle, nodeTwiddle, beside, Invertible, Inverted}
 use Rattle.transform.specs.Twiddles.{twiddle, even-or-odd}
 use Rattle.transform.specs.Elements.{fieldTwiddle, fieldInverse}
 
@@ -41,8 +41,8 @@ pub neg-neg : (x : ℕ) → x < P → negP (negP x) ≡ x
 neg-neg x h = solveWords words31 m31 m31-representation (x ∷ []) (:- :- v0) v0 (m31-representation .neg-reduced _) h tt
 
 -- (- u) (- x) = u x
-pub signs : (u x : ℕ) → mulP (negP u) (negP x) ≡ mulP u x
-signs u x =
+pub neg-mul-neg : (u x : ℕ) → mulP (negP u) (negP x) ≡ mulP u x
+neg-mul-neg u x =
     solveWords words31 m31 m31-representation (u ∷ x ∷ []) (:- v0 :* :- v1) (v0 :* v1) (m31-representation .mul-reduced _ _) (m31-representation .mul-reduced _ _) tt
 
 beside-even : (tree : List ℕ) (j : ℕ) → beside tree (2 * j) ≡ getD tree (2 * j + 1) 0
@@ -57,9 +57,9 @@ beside-odd tree j =
     ap₂ (λ (r k : ℕ). cond (eqb r 0) (getD tree (2 * j + 1 + 1) 0) (negP (getD tree k 0))) odd less
 
 -- where a tree holds the twiddles, and the products with another's nodes are 1, that one holds their inverses
-pub holds-inverse : (n : ℕ) (tree other : ℕ → ℕ → ℕ) → Holds words31 n tree (twiddle n)
+pub holds-inverse : (n : ℕ) (tree other : ℕ → ℕ → ℕ) → HoldsTwiddles words31 n tree (twiddle n)
     → ((s d : ℕ) → s + suc d ≡ n → (j : ℕ) → j < 2 ^ d → mulP (other s (2 ^ d + j)) (tree s (2 ^ d + j)) ≡ 1)
-    → Holds m31 n (λ s j. element (other s j)) (fieldInverse n)
+    → HoldsTwiddles m31 n (λ s j. element (other s j)) (fieldInverse n)
 holds-inverse n tree other holds inverse s d e j h =
     F.inv-unique m31 m31-field (fieldTwiddle n s j) (element (other s (2 ^ d + j)))
     (ap (λ (w : ℕ). m31 .mul (element w) (element (other s (2 ^ d + j)))) (sym (holds s d e j h))
@@ -79,22 +79,22 @@ root-square x e =
 -- ---- the y of half coset points, from x and y of every fourth
 
 module _ (n c : ℕ) (lo : 3 ≤ n) (hi : n ≤ 30) where
-  y-turned : (r : ℕ) → r < 4 → turned r (halfPoint n (4 * c) .0) (halfPoint n (4 * c) .1) ≡ halfPoint n (4 * c + r) .1
-  unfolding turned
-  y-turned zero h = ap (λ (k : ℕ). halfPoint n k .1) (omega arith)
-  y-turned (suc zero) h =
+  circle-twiddle-y : (r : ℕ) → r < 4 → circleTwiddle r (halfPoint n (4 * c) .0) (halfPoint n (4 * c) .1) ≡ halfPoint n (4 * c + r) .1
+  unfolding circleTwiddle
+  circle-twiddle-y zero h = ap (λ (k : ℕ). halfPoint n k .1) (omega arith)
+  circle-twiddle-y (suc zero) h =
       let even : 2 * (2 * c) ≡ 4 * c = omega arith in
       let odd : 2 * (2 * c) + 1 ≡ 4 * c + 1 = omega arith in
       ap (λ (k : ℕ). negP (halfPoint n k .1)) (sym even) ∙ sym (ap (λ (p : ℕ × ℕ). p .1) (half-neighbour n (2 * c) (omega arith) hi))
       ∙ ap (λ (k : ℕ). halfPoint n k .1) odd
-  y-turned (suc (suc zero)) h = sym (ap (λ (p : ℕ × ℕ). p .1) (half-turned n c lo hi))
-  y-turned (suc (suc (suc zero))) h =
+  circle-twiddle-y (suc (suc zero)) h = sym (ap (λ (p : ℕ × ℕ). p .1) (half-add-quarter n c lo hi))
+  circle-twiddle-y (suc (suc (suc zero))) h =
       let even : 2 * (2 * c + 1) ≡ 4 * c + 2 = omega arith in
       let odd : 2 * (2 * c + 1) + 1 ≡ 4 * c + 3 = omega arith in
       sym (ap (λ (k : ℕ). halfPoint n k .1) (sym odd) ∙ ap (λ (p : ℕ × ℕ). p .1) (half-neighbour n (2 * c + 1) (omega arith) hi)
-      ∙ ap (λ (k : ℕ). negP (halfPoint n k .1)) even ∙ ap negP (ap (λ (p : ℕ × ℕ). p .1) (half-turned n c lo hi))
+      ∙ ap (λ (k : ℕ). negP (halfPoint n k .1)) even ∙ ap negP (ap (λ (p : ℕ × ℕ). p .1) (half-add-quarter n c lo hi))
       ∙ neg-neg (halfPoint n (4 * c) .0) (index-below (halfIndex n (4 * c)) .0))
-  y-turned (suc (suc (suc (suc r)))) h = absurd (omega arith)
+  circle-twiddle-y (suc (suc (suc (suc r)))) h = absurd (omega arith)
 
 module _ (n : ℕ) (tree : List ℕ) (lo : 3 ≤ n) (hi : n ≤ 30) (t : LineTree n tree) where
   -- siblings: x and y of one point
@@ -114,33 +114,33 @@ module _ (n : ℕ) (tree : List ℕ) (lo : 3 ≤ n) (hi : n ≤ 30) (t : LineTre
         let place : 2 * (2 * b + 1) ≡ 4 * b + 2 = omega arith in
         ap (λ (j : ℕ). getD tree j 0) node ∙ t .lines (suc e) (2 * b + 1) (omega arith) (omega arith) (omega (arith, N.two-pow-succ e))
         ∙ ap₂ (λ (m k : ℕ). halfPoint m k .0) level place
-        ∙ ap (λ (p : ℕ × ℕ). p .0) (half-turned (e + 3) b (omega arith) (omega arith))
+        ∙ ap (λ (p : ℕ × ℕ). p .0) (half-add-quarter (e + 3) b (omega arith) (omega arith))
 
-  circle-twiddle : (e i : ℕ) → e + 3 ≡ n → i < 2 ^ suc (suc e) → nodeTwiddle tree zero (2 ^ suc (suc e) + i) ≡ halfPoint n i .1
+  node-pair-y : (e i : ℕ) → e + 3 ≡ n → i < 2 ^ suc (suc e) → nodeTwiddle tree zero (2 ^ suc (suc e) + i) ≡ halfPoint n i .1
   unfolding nodeTwiddle
-  circle-twiddle e i s h =
-      ap₂ (λ (r q : ℕ). turned r (getD tree (2 * q) 0) (getD tree (2 * q + 1) 0)) rest quotient
-      ∙ ap₂ (turned (i % 4)) (child-x e (i / 4) (omega arith) small) (child-y e (i / 4) (omega arith) small)
-      ∙ y-turned (e + 3) (i / 4) (omega arith) (omega arith) (i % 4) (omega arith)
+  node-pair-y e i s h =
+      ap₂ (λ (r q : ℕ). circleTwiddle r (getD tree (2 * q) 0) (getD tree (2 * q + 1) 0)) node-mod-4 node-div-4
+      ∙ ap₂ (circleTwiddle (i % 4)) (child-x e (i / 4) (omega arith) small) (child-y e (i / 4) (omega arith) small)
+      ∙ circle-twiddle-y (e + 3) (i / 4) (omega arith) (omega arith) (i % 4) (omega arith)
       ∙ ap₂ (λ (m k : ℕ). halfPoint m k .1) s (omega arith)
     where
-      four : 2 ^ suc (suc e) ≡ 4 * 2 ^ e
-      four = omega (arith, N.two-pow-succ e, N.two-pow-succ (suc e))
+      pow-is-four-times : 2 ^ suc (suc e) ≡ 4 * 2 ^ e
+      pow-is-four-times = omega (arith, N.two-pow-succ e, N.two-pow-succ (suc e))
 
-      rest : (2 ^ suc (suc e) + i) % 4 ≡ i % 4
-      rest = omega (arith, four)
+      node-mod-4 : (2 ^ suc (suc e) + i) % 4 ≡ i % 4
+      node-mod-4 = omega (arith, pow-is-four-times)
 
-      quotient : (2 ^ suc (suc e) + i) / 4 ≡ 2 ^ e + i / 4
-      quotient = omega (arith, four)
+      node-div-4 : (2 ^ suc (suc e) + i) / 4 ≡ 2 ^ e + i / 4
+      node-div-4 = omega (arith, pow-is-four-times)
 
       small : i / 4 < 2 ^ e
-      small = omega (arith, four)
+      small = omega (arith, pow-is-four-times)
 
-  pub tree-holds : Holds words31 n (nodeTwiddle tree) (twiddle n)
+  pub tree-holds : HoldsTwiddles words31 n (nodeTwiddle tree) (twiddle n)
   unfolding twiddle nodeTwiddle
   tree-holds zero zero e i h = absurd (omega arith)
   tree-holds zero (suc zero) e i h = absurd (omega arith)
-  tree-holds zero (suc (suc d)) e i h = circle-twiddle d i (omega arith) h
+  tree-holds zero (suc (suc d)) e i h = node-pair-y d i (omega arith) h
   tree-holds (suc s) d e i h =
       let level : d + 2 ≡ n - s = omega arith in
       t .lines d i (omega arith) (omega arith) h ∙ ap (λ (m : ℕ). halfPoint m (2 * i) .0) level
@@ -157,10 +157,10 @@ module _ (n : ℕ) (tree : List ℕ) (lo : 3 ≤ n) (hi : n ≤ 30) (t : LineTre
       by-level (λ j. getD tree j 0 < P) (n - 1) (λ k b a l. rw (t .lines k b (omega arith) (omega arith) l) (index-below (halfIndex (k + 2) (2 * b)) .0))
 
   pub tree-words : Words tree
-  tree-words zero = rw (t .copied) (node-below 1 (omega arith) (omega (arith, few, W.pow-pos (n - 1 - 1))))
+  tree-words zero = rw (t .copied) (node-below 1 (omega arith) (omega (arith, half-is-two-quarters, W.pow-pos (n - 1 - 1))))
     where
-      few : 2 ^ (n - 1) ≡ 2 * 2 ^ (n - 1 - 1)
-      few = ap (λ (m : ℕ). 2 ^ m) (omega arith) ∙ N.pow-succ' 2 (n - 1 - 1)
+      half-is-two-quarters : 2 ^ (n - 1) ≡ 2 * 2 ^ (n - 1 - 1)
+      half-is-two-quarters = ap (λ (m : ℕ). 2 ^ m) (omega arith) ∙ N.pow-succ' 2 (n - 1 - 1)
   tree-words (suc k) = elim (decLt (suc k) (length tree)) [
     | yes l ↦ node-below (suc k) (omega arith) (omega (arith, nodes))
     | no g ↦ rw (List·getD-eq-default tree 0 {n = suc k} (omega arith)) P-pos
@@ -193,7 +193,7 @@ module _ (n : ℕ) (tree : List ℕ) (lo : 3 ≤ n) (hi : n ≤ 30) (t : LineTre
       odd z =
           let node : 2 ^ suc e + b ≡ 2 * (2 ^ e + c) + 1 = omega (arith, N.two-pow-succ e) in
           ap (beside tree) node ∙ beside-odd tree (2 ^ e + c) ∙ ap negP (child-x e c (omega arith) small)
-          ∙ sym (ap (λ (p : ℕ × ℕ). p .1) (half-turned (e + 3) c (omega arith) (omega arith)))
+          ∙ sym (ap (λ (p : ℕ × ℕ). p .1) (half-add-quarter (e + 3) c (omega arith) (omega arith)))
           ∙ ap₂ (λ (m k : ℕ). halfPoint m k .1) level (omega arith)
 
   children-double : (k b : ℕ) → k + 3 ≤ n → b < 2 ^ k
@@ -207,46 +207,46 @@ module _ (n : ℕ) (tree : List ℕ) (lo : 3 ≤ n) (hi : n ≤ 30) (t : LineTre
 
   pub tree-invertible : Invertible tree
   tree-invertible = record {
-    even = omega (arith, nodes, powers);
-    least = omega (arith, nodes, powers, W.pow-pos (n - 1 - 1));
+    even = omega (arith, nodes, half-is-two-quarters);
+    least = omega (arith, nodes, half-is-two-quarters, W.pow-pos (n - 1 - 1));
     words = tree-words;
     copied = t .copied;
     root = root-square (getD tree 1 0) (t .lines 0 0 (omega arith) (omega arith) (W.pow-pos 0));
     children = λ i pos l. by-level (λ i. mulP 2 (mulP (getD tree (2 * i) 0) (getD tree (2 * i + 1) 0)) ≡ beside tree i) (n - 1 - 1)
-        (λ k b a l. children-double k b (omega arith) l) i pos (omega (arith, nodes, powers));
+        (λ k b a l. children-double k b (omega arith) l) i pos (omega (arith, nodes, half-is-two-quarters));
   }
     where
-      powers : 2 ^ (n - 1) ≡ 2 * 2 ^ (n - 1 - 1)
-      powers =
+      half-is-two-quarters : 2 ^ (n - 1) ≡ 2 * 2 ^ (n - 1 - 1)
+      half-is-two-quarters =
           let bits : n - 1 ≡ suc (n - 1 - 1) = omega arith in
           ap (λ (m : ℕ). 2 ^ m) bits ∙ N.pow-succ' 2 (n - 1 - 1)
 
   -- ---- the inverted tree holds the inverses
 
   module _ (exit : List ℕ) (i : Inverted tree exit) where
-    turned-inverse : (r x y u v : ℕ) → mulP u x ≡ 1 → mulP v y ≡ 1 → mulP (turned r u v) (turned r x y) ≡ 1
-    unfolding turned
-    turned-inverse zero x y u v e f = f
-    turned-inverse (suc zero) x y u v e f = signs v y ∙ f
-    turned-inverse (suc (suc zero)) x y u v e f = signs u x ∙ e
-    turned-inverse (suc (suc (suc r))) x y u v e f = e
+    circle-twiddle-inverse : (r x y u v : ℕ) → mulP u x ≡ 1 → mulP v y ≡ 1 → mulP (circleTwiddle r u v) (circleTwiddle r x y) ≡ 1
+    unfolding circleTwiddle
+    circle-twiddle-inverse zero x y u v e f = f
+    circle-twiddle-inverse (suc zero) x y u v e f = neg-mul-neg v y ∙ f
+    circle-twiddle-inverse (suc (suc zero)) x y u v e f = neg-mul-neg u x ∙ e
+    circle-twiddle-inverse (suc (suc (suc r))) x y u v e f = e
 
     node-inverse : (s d : ℕ) → s + suc d ≡ n → (j : ℕ) → j < 2 ^ d → mulP (nodeTwiddle exit s (2 ^ d + j)) (nodeTwiddle tree s (2 ^ d + j)) ≡ 1
     unfolding nodeTwiddle
     node-inverse zero d e j h =
         let q : ℕ = (2 ^ d + j) / 4 in
-        let room : 2 * q + 1 < length tree = omega (arith, nodes, whole, (ap (λ (m : ℕ). 2 ^ m) bits)) in
-        turned-inverse ((2 ^ d + j) % 4) (getD tree (2 * q) 0) (getD tree (2 * q + 1) 0) (getD exit (2 * q) 0) (getD exit (2 * q + 1) 0)
+        let room : 2 * q + 1 < length tree = omega (arith, nodes, half-is-four-eighths, (ap (λ (m : ℕ). 2 ^ m) bits)) in
+        circle-twiddle-inverse ((2 ^ d + j) % 4) (getD tree (2 * q) 0) (getD tree (2 * q + 1) 0) (getD exit (2 * q) 0) (getD exit (2 * q + 1) 0)
         (i .inverse (2 * q) (omega arith)) (i .inverse (2 * q + 1) room)
       where
         bits : n - 1 ≡ d
         bits = omega arith
 
-        whole : 2 ^ (n - 1) ≡ 4 * 2 ^ (n - 1 - 1 - 1)
-        whole =
+        half-is-four-eighths : 2 ^ (n - 1) ≡ 4 * 2 ^ (n - 1 - 1 - 1)
+        half-is-four-eighths =
             let less : n - 1 ≡ suc (suc (n - 1 - 1 - 1)) = omega arith in
             omega (arith, ap (λ (m : ℕ). 2 ^ m) less, N.two-pow-succ (suc (n - 1 - 1 - 1)), N.two-pow-succ (n - 1 - 1 - 1))
     node-inverse (suc s) d e j h = i .inverse (2 ^ d + j) (omega (arith, nodes, N.two-pow-succ d, W.pow-mono {i = suc d} {j = n - 1} (omega arith)))
 
-    pub inverse-holds : Holds m31 n (λ s j. element (nodeTwiddle exit s j)) (fieldInverse n)
+    pub inverse-holds : HoldsTwiddles m31 n (λ s j. element (nodeTwiddle exit s j)) (fieldInverse n)
     inverse-holds = holds-inverse n (nodeTwiddle tree) (nodeTwiddle exit) tree-holds node-inverse

@@ -31,19 +31,19 @@ module _ (n : ℕ) (lo : 1 ≤ n) (hi : n ≤ 30) where
       even-or-odd p (λ e. ap (λ (q : ℕ × ℕ). q .0) (position-even n lo hi p e)) (λ e. ap (λ (q : ℕ × ℕ). q .0) (position-odd n lo hi p e))
 
   -- x doubled t times belongs to log size n - t
-  doubled : (t k : ℕ) → t < n → iterate t (doubleX words31) (halfPoint n k .0) ≡ halfPoint (n - t) (k / 2 ^ t) .0
+  half-doubled-x : (t k : ℕ) → t < n → iterate t (doubleX words31) (halfPoint n k .0) ≡ halfPoint (n - t) (k / 2 ^ t) .0
   unfolding iterate
-  doubled zero k h = ap₂ (λ (l m : ℕ). halfPoint l m .0) (omega arith) (omega (arith, ap (λ (s : ℕ). k / s) (N.pow-zero 2) ∙ N.div-one k))
-  doubled (suc t) k h =
+  half-doubled-x zero k h = ap₂ (λ (l m : ℕ). halfPoint l m .0) (omega arith) (omega (arith, ap (λ (s : ℕ). k / s) (N.pow-zero 2) ∙ N.div-one k))
+  half-doubled-x (suc t) k h =
       let level : n - t ≡ suc (n - suc t) = omega arith in
-      iterate-suc t (doubleX words31) (halfPoint n k .0) ∙ ap (doubleX words31) (doubled t k (omega arith) ∙ ap (λ (l : ℕ). halfPoint l (k / 2 ^ t) .0) level)
+      iterate-suc t (doubleX words31) (halfPoint n k .0) ∙ ap (doubleX words31) (half-doubled-x t k (omega arith) ∙ ap (λ (l : ℕ). halfPoint l (k / 2 ^ t) .0) level)
       ∙ half-double-x (n - suc t) (omega arith) (omega arith) (k / 2 ^ t)
       ∙ ap (λ (m : ℕ). halfPoint (n - suc t) m .0) (N.div-div-eq-div-mul k (2 ^ t) 2 ∙ ap (λ (s : ℕ). k / s) (sym (N.pow-suc 2 t)))
 
   line-factor : (p t : ℕ) → t < n → factor words31 (positionPoint n p) (suc t) ≡ halfPoint (n - t) (p / 2 ^ suc t) .0
   unfolding factor
   line-factor p t h =
-      ap (iterate t (doubleX words31)) (position-x p) ∙ doubled t (p / 2) h
+      ap (iterate t (doubleX words31)) (position-x p) ∙ half-doubled-x t (p / 2) h
       ∙ ap (λ (m : ℕ). halfPoint (n - t) m .0) (N.div-div-eq-div-mul p 2 (2 ^ t) ∙ ap (λ (s : ℕ). p / s) (sym (N.pow-succ' 2 t)))
 
   -- x of half coset point m, from the even one of its pair

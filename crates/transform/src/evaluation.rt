@@ -73,7 +73,7 @@ fn four(block: &mut [u32], w: u32, v: u32)
 }
 
 // The same with -v and v for the pairs.
-fn four_turned(block: &mut [u32], w: u32, v: u32)
+fn four_negated(block: &mut [u32], w: u32, v: u32)
     requires { ⌜ (length (now block) ≡ 4) × (w < P) × (v < P) × PartlyReduced (now block) ⌝ }
     ensures { λ _. ⌜ now (block .exit) ≡ evaluateBlock words31 2 (pairTwiddle w (negP v) v) 0 (reducedWords (now (block .entry))) ⌝ }
 {
@@ -97,7 +97,7 @@ fn eight(block: &mut [u32], x: u32, y: u32)
     ensures { λ _. ⌜ now (block .exit) ≡ evaluateEight x y (reducedWords (now (block .entry))) ⌝ }
 {
     four(&mut block[0..4], x, y);
-    four_turned(&mut block[4..8], y, x);
+    four_negated(&mut block[4..8], y, x);
 }
 
 // The last two layers of so many blocks of eight words, below the nodes from `node` on.
@@ -167,7 +167,7 @@ fn evaluate_four(column: &mut [u32])
 {
     let p = power_point(28);
     let x = p.x.0;
-    four_turned(column, x, x);
+    four_negated(column, x, x);
 }
 
 pub fn evaluate(log_size: u32, column: &mut [u32], scratch: &mut [u32])

@@ -90,7 +90,7 @@ fn four(block: &mut [u32], w: u32, v: u32)
 }
 
 // The same with -v and v for the pairs.
-fn four_turned(block: &mut [u32], w: u32, v: u32)
+fn four_negated(block: &mut [u32], w: u32, v: u32)
     requires { ⌜ (length (now block) ≡ 4) × (w < P) × (v < P) × PartlyReduced (now block) ⌝ }
     ensures { λ _. ⌜ (reducedWords (now (block .exit)) ≡ interpolateBlock words31 2 (pairTwiddle w (negP v) v) 0 (reducedWords (now (block .entry)))) × PartlyReduced (now (block .exit)) ⌝ }
 {
@@ -114,7 +114,7 @@ fn eight(block: &mut [u32], x: u32, y: u32)
     ensures { λ _. ⌜ (reducedWords (now (block .exit)) ≡ interpolateEight x y (reducedWords (now (block .entry)))) × PartlyReduced (now (block .exit)) ⌝ }
 {
     four(&mut block[0..4], x, y);
-    four_turned(&mut block[4..8], y, x);
+    four_negated(&mut block[4..8], y, x);
 }
 
 // The first two layers of so many blocks of eight words, below the nodes from `node` on.
@@ -151,7 +151,7 @@ fn layers(column: &mut [u32], tree: &[u32], i: usize, k: u32)
 }
 
 // a 2^s modulo P: since 2^31 is 1, its 31 bits turned by s places. P, which stands for 0, stays P and is reduced.
-fn turned(a: u32, s: u32) -> u32
+fn rotated(a: u32, s: u32) -> u32
     requires { ⌜ (a ≤ P) × (0 < s) × (s < 31) ⌝ }
     ensures { λ r. ⌜ r ≡ mulP a (2 ^ s) ⌝ }
 {
@@ -165,7 +165,7 @@ fn scale(column: &mut [u32], s: u32)
 {
     let mut i: usize = 0;
     while i < column.len() {
-        column[i] = turned(column[i], s);
+        column[i] = rotated(column[i], s);
         i += 1;
     }
 }
@@ -203,7 +203,7 @@ fn interpolate_four(column: &mut [u32])
     let p = power_point(28);
     let x = p.x.0;
     let inverse = add(x, x);
-    four_turned(column, inverse, inverse);
+    four_negated(column, inverse, inverse);
 }
 
 pub fn interpolate(log_size: u32, column: &mut [u32], scratch: &mut [u32])

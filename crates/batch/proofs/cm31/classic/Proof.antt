@@ -1,7 +1,7 @@
 use native.Mathlib.Omega.{arith}
 use borrow.Author.Needs.{needs}
 use Rattle.batch.specs.Passes.{cm31Units}
-use Rattle.batch.proofs.Montgomery.{none-inverted, start, whole-unit, turn, passes-inverted}
+use Rattle.batch.proofs.Montgomery.{none-inverted, before-products, whole-unit, before-inverses, passes-inverted}
 use Rattle.batch.proofs.cm31.classic.Statement.{statement}
 use Rattle.batch.proofs.cm31.classic.Tie as tie
 
@@ -9,16 +9,16 @@ returns : tie.Need-returns
 returns c = none-inverted cm31Units (omega (arith, c .if1 .taken))
 
 products-requires : tie.Need-products-requires
-products-requires c κs = start cm31Units (c .before .before .before .before .pre) (search needs)
+products-requires c κs = before-products cm31Units (c .before .before .before .before .pre) (search needs)
 
 inverse-requires : tie.Need-inverse-requires
 inverse-requires c κs =
     let entry = c .before .before .before .before .before .before .before .before in
-    whole-unit cm31Units (start cm31Units (entry .pre) (search needs)) (c .before .before .before .products .ensures) .0
+    whole-unit cm31Units (before-products cm31Units (entry .pre) (search needs)) (c .before .before .before .products .ensures) .0
 
 inverses-requires : tie.Need-inverses-requires
 inverses-requires c κs =
-    turn cm31Units (start cm31Units (c .before .before .before .before .before .before .before .before .before .pre) (search needs))
+    before-inverses cm31Units (before-products cm31Units (c .before .before .before .before .before .before .before .before .before .pre) (search needs))
     (c .before .before .before .before .products .ensures) (search needs) (c .inverse .ensures .0)
 
 same-length : tie.Need-same-length
@@ -27,7 +27,7 @@ same-length c = search needs
 returns-2 : tie.Need-returns-2
 returns-2 c =
     let entry = c .before .before .before .before .before .before .before .before .before .before .before .before in
-    passes-inverted cm31Units (start cm31Units (entry .pre) (search needs))
+    passes-inverted cm31Units (before-products cm31Units (entry .pre) (search needs))
     (c .before .before .inverses .ensures) (search needs)
 
 pub classic-spec : {M : Type 1} → statement M

@@ -1,7 +1,7 @@
 use native.Mathlib.Omega.{arith}
 use borrow.Author.Needs.{needs}
 use Rattle.batch.specs.Passes.{m31Units}
-use Rattle.batch.proofs.Montgomery.{none-inverted, start, whole-unit, turn, passes-inverted}
+use Rattle.batch.proofs.Montgomery.{none-inverted, before-products, whole-unit, before-inverses, passes-inverted}
 use Rattle.batch.proofs.m31.classic.Statement.{statement}
 use Rattle.batch.proofs.m31.classic.Tie as tie
 
@@ -9,16 +9,16 @@ returns : tie.Need-returns
 returns c = none-inverted m31Units (omega (arith, c .if1 .taken))
 
 products-requires : tie.Need-products-requires
-products-requires c κs = start m31Units (c .before .before .before .before .pre) (search needs)
+products-requires c κs = before-products m31Units (c .before .before .before .before .pre) (search needs)
 
 pow2147483645-requires : tie.Need-pow2147483645-requires
 pow2147483645-requires c κs =
     let entry = c .before .before .before .before .before .before .before .before in
-    whole-unit m31Units (start m31Units (entry .pre) (search needs)) (c .before .before .before .products .ensures) .0
+    whole-unit m31Units (before-products m31Units (entry .pre) (search needs)) (c .before .before .before .products .ensures) .0
 
 inverses-requires : tie.Need-inverses-requires
 inverses-requires c κs =
-    turn m31Units (start m31Units (c .before .before .before .before .before .before .before .before .before .pre) (search needs))
+    before-inverses m31Units (before-products m31Units (c .before .before .before .before .before .before .before .before .before .pre) (search needs))
     (c .before .before .before .before .products .ensures) (search needs) (c .pow2147483645 .ensures)
 
 same-length : tie.Need-same-length
@@ -27,7 +27,7 @@ same-length c = search needs
 returns-2 : tie.Need-returns-2
 returns-2 c =
     let entry = c .before .before .before .before .before .before .before .before .before .before .before .before in
-    passes-inverted m31Units (start m31Units (entry .pre) (search needs))
+    passes-inverted m31Units (before-products m31Units (entry .pre) (search needs))
     (c .before .before .inverses .ensures) (search needs)
 
 pub classic-spec : {M : Type 1} → statement M

@@ -1,6 +1,6 @@
 use borrow.Author.Needs.{needs}
 use Rattle.batch.specs.Passes.{m31Units, laneUnits}
-use Rattle.batch.proofs.Montgomery.{whole-unit, turn, passes-inverted}
+use Rattle.batch.proofs.Montgomery.{whole-unit, before-inverses, passes-inverted}
 use Rattle.batch.proofs.m31.four_lanes.Statement.{statement}
 use Rattle.batch.proofs.m31.four_lanes.Tie as tie
 
@@ -15,7 +15,7 @@ lanes-inverse-requires c κs =
 lanes-inverses-requires : tie.Need-lanes-inverses-requires
 lanes-inverses-requires c κs =
     let entry = c .before .before .before .before .before .before .before .before in
-    turn (laneUnits m31Units) (entry .pre) (c .before .before .before .before .lanes-products .ensures) (search needs)
+    before-inverses (laneUnits m31Units) (entry .pre) (c .before .before .before .before .lanes-products .ensures) (search needs)
     (c .lanes-inverse .ensures)
 
 same-length : tie.Need-same-length

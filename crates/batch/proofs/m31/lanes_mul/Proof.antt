@@ -1,5 +1,5 @@
 use borrow.Author.Needs.{needs}
-use Rattle.fields.specs.PairLaws.{four}
+use Rattle.fields.specs.PairLaws.{four-path}
 use Rattle.batch.proofs.m31.lanes_mul.Statement.{statement}
 use Rattle.batch.proofs.m31.lanes_mul.Tie as tie
 
@@ -17,7 +17,7 @@ mul-requires-4 c κs = (c .before .before .before .pre .left .1 .1 .0, c .before
 
 returns : tie.Need-returns
 returns c =
-    four (c .before .before .before .mul .ensures) (c .before .before .mul2 .ensures) (c .before .mul3 .ensures) (c .mul4 .ensures)
+    four-path (c .before .before .before .mul .ensures) (c .before .before .mul2 .ensures) (c .before .mul3 .ensures) (c .mul4 .ensures)
 
 pub lanes-mul-spec : {M : Type 1} → statement M
 lanes-mul-spec = tie.close (tie.spec mul-requires mul-requires-2 mul-requires-3 mul-requires-4 returns)

@@ -1,5 +1,5 @@
 use borrow.Author.Needs.{needs}
-use Rattle.fields.specs.PairLaws.{four}
+use Rattle.fields.specs.PairLaws.{four-path}
 use Rattle.batch.proofs.qm31.lanes_mul.Statement.{statement}
 use Rattle.batch.proofs.qm31.lanes_mul.Tie as tie
 
@@ -21,7 +21,7 @@ mul-requires-4 c κs =
 
 returns : tie.Need-returns
 returns c =
-    four (c .before .before .before .mul .ensures .0) (c .before .before .mul2 .ensures .0) (c .before .mul3 .ensures .0)
+    four-path (c .before .before .before .mul .ensures .0) (c .before .before .mul2 .ensures .0) (c .before .mul3 .ensures .0)
     (c .mul4 .ensures .0)
 
 pub lanes-mul-spec : {M : Type 1} → statement M

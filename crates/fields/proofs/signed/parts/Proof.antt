@@ -1,6 +1,6 @@
 use native.Mathlib.Omega.{arith}
 use mir.Syntax.{w64}
-use Rattle.fields.specs.Signed.{plus-one-fits, negated-fits, negated-reads, negative-parts, positive-reads, positive-parts}
+use Rattle.fields.specs.Signed.{plus-one-fits, negated-fits, negated-reads, negative-parts, nonnegative-reads, nonnegative-parts}
 use Rattle.fields.proofs.signed.parts.Statement.{statement}
 use Rattle.fields.proofs.signed.parts.Tie as tie
 
@@ -27,13 +27,13 @@ returns c =
 
 cast-t7 : tie.Need-cast-t7
 cast-t7 c =
-    rw (positive-reads w64 (c .before .args .x) (c .before .fits .x) (c .if1 .left))
+    rw (nonnegative-reads w64 (c .before .args .x) (c .before .fits .x) (c .if1 .left))
     (tt, record { fits = omega (arith, c .before .fits .x .sfits) })
 
 returns-2 : tie.Need-returns-2
 returns-2 c =
-    rw (positive-reads w64 (c .before .args .x) (c .before .fits .x) (c .if1 .left))
-    (positive-parts w64 (c .before .args .x) (c .before .fits .x) (c .if1 .left))
+    rw (nonnegative-reads w64 (c .before .args .x) (c .before .fits .x) (c .if1 .left))
+    (nonnegative-parts w64 (c .before .args .x) (c .before .fits .x) (c .if1 .left))
 
 pub parts-spec : {M : Type 1} → statement M
 parts-spec = tie.close (tie.spec add-below sub-below cast-t5 add-t6 returns cast-t7 returns-2)

@@ -18,9 +18,9 @@ use Rattle.transform.proofs.BlockLoops.{turn-end, PartlyTurn, partly-st
 use Rattle.transform.proofs.evaluation.eights.Statement.{statement}
 use Rattle.transform.proofs.evaluation.eights.Tie as tie
 
--- what a turn does to its block
-abbrev turned : List ℕ → ℕ → List ℕ → List ℕ
-turned tree j = evaluateEight (getD tree (2 * j) 0) (getD tree (2 * j + 1) 0)
+-- what the loop makes of block j
+abbrev blockAfter : List ℕ → ℕ → List ℕ → List ℕ
+blockAfter tree j = evaluateEight (getD tree (2 * j) 0) (getD tree (2 * j + 1) 0)
 
 abbrev first : ℕ → ℕ → List ℕ → List ℕ
 first x y = evaluateBlock words31 2 (pairTwiddle x y (negP y)) 0
@@ -28,15 +28,15 @@ first x y = evaluateBlock words31 2 (pairTwiddle x y (negP y)) 0
 abbrev second : ℕ → ℕ → List ℕ → List ℕ
 second x y = evaluateBlock words31 2 (pairTwiddle y (negP x) x) 0
 
-turned-below : (tree : List ℕ) (j : ℕ) (l q : List ℕ) → q ≡ turned tree j (reducedWords l) → Words q
-turned-below tree j l q e k =
+block-after-below : (tree : List ℕ) (j : ℕ) (l q : List ℕ) → q ≡ blockAfter tree j (reducedWords l) → Words q
+block-after-below tree j l q e k =
     let x = getD tree (2 * j) 0 in
     let y = getD tree (2 * j + 1) 0 in
     rw e (eight-words (first x y) (second x y) (λ l w. words-evaluate 2 _ 0 l w) (λ l w. words-evaluate 2 _ 0 l w) (reducedWords l) (reduced-below l) k)
 
 -- the blocks before b are reduced
 abbrev Inv-loop : tie.InvT-loop
-Inv-loop column₀ tree node count b₀ column b = PartlyTurn count 8 (turned tree) node column₀ b column × Words (take (8 * b) column)
+Inv-loop column₀ tree node count b₀ column b = PartlyTurn count 8 (blockAfter tree) node column₀ b column × Words (take (8 * b) column)
 
 abbrev μ-loop : tie.MeasureT-loop
 μ-loop column₀ tree node count b₀ column b = count - b
@@ -45,13 +45,13 @@ in-column : (d : tie.In-loop Inv-loop μ-loop)
     → (8 * d .before .loop .b + 8 ≤ length (d .before .loop .column)) × (length (d .before .loop .column) ≡ length (d .before .before .before .before .args .column .now))
 in-column d =
     let s = d .before .before .before .before in
-    partly-inside (s .args .count) 8 (turned (s .args .tree .now)) (s .args .node) (s .args .column .now) (s .pre .0)
+    partly-inside (s .args .count) 8 (blockAfter (s .args .tree .now)) (s .args .node) (s .args .column .now) (s .pre .0)
     (d .before .loop .b) (d .before .loop .column) (d .before .loop .inv .0) (d .loop-test .taken) _ _ (N.mul-comm 8 (d .before .loop .b)) refl
 
 loop-holds : tie.Need-loop-holds Inv-loop μ-loop
 loop-holds c =
     let s = c .before .before in
-    (partly-start (s .args .count) 8 (turned (s .args .tree .now)) (s .args .node) (s .args .column .now) (s .pre .2), λ k. P-pos)
+    (partly-start (s .args .count) 8 (blockAfter (s .args .tree .now)) (s .args .node) (s .args .column .now) (s .pre .2), λ k. P-pos)
 
 mul-start : tie.Need-mul-start Inv-loop μ-loop
 mul-start c = omega (arith, in-column c .0, in-column c .1)
@@ -98,11 +98,11 @@ eight-requires c κs =
     let s = d .before .before .before .before in
     let tree = s .args .tree .now in
     let child = 2 * (s .args .node + d .before .loop .b) in (
-      partly-part-length (s .args .count) 8 (turned tree) (s .args .node) (s .args .column .now) (s .pre .0)
+      partly-part-length (s .args .count) 8 (blockAfter tree) (s .args .node) (s .args .column .now) (s .pre .0)
           (d .before .loop .b) (d .before .loop .column) (d .before .loop .inv .0) (d .loop-test .taken) _ _ (N.mul-comm 8 (d .before .loop .b)) refl,
       s .pre .3 child,
       s .pre .3 (child + 1),
-      partly-part (s .args .count) 8 (turned tree) (s .args .node) (s .args .column .now) (s .pre .0)
+      partly-part (s .args .count) 8 (blockAfter tree) (s .args .node) (s .args .column .now) (s .pre .0)
           (d .before .loop .b) (d .before .loop .column) (d .before .loop .inv .0) (d .loop-test .taken) _ _ (N.mul-comm 8 (d .before .loop .b)) refl,
     )
 
@@ -119,14 +119,14 @@ loop-again c =
     let tree = s .args .tree .now in
     let eight = c .before .before .eight in
     let start = 8 * d .before .loop .b in
-    let below = turned-below tree (s .args .node + d .before .loop .b) (take (start + 8 - start) (drop start (d .before .loop .column))) (eight .last .0) (eight .ensures) in (
-      partly-next (s .args .count) 8 (turned tree) (s .args .node) (s .args .column .now) (s .pre .0)
+    let below = block-after-below tree (s .args .node + d .before .loop .b) (take (start + 8 - start) (drop start (d .before .loop .column))) (eight .last .0) (eight .ensures) in (
+      partly-next (s .args .count) 8 (blockAfter tree) (s .args .node) (s .args .column .now) (s .pre .0)
           (d .before .loop .b) (d .before .loop .column) (d .before .loop .inv .0) (d .loop-test .taken) _ _ (N.mul-comm 8 (d .before .loop .b)) refl
           (λ j l e. let x = getD tree (2 * j) 0 in let y = getD tree (2 * j + 1) 0 in
           eight-length (first x y) (second x y) (λ l e. evaluate-length words31 2 _ 0 l e) (λ l e. evaluate-length words31 2 _ 0 l e) l e)
           (eight .last .0) (reduced-same (eight .last .0) below ∙ eight .ensures) (partly-words (eight .last .0) below),
       spliced-prefix (d .before .loop .column) (eight .last .0) _ (8 * d .before .loop .b) 8 (8 * (d .before .loop .b + 1)) (omega (arith, in-column d .0))
-          (eight .kept .0 ∙ partly-part-length (s .args .count) 8 (turned tree) (s .args .node) (s .args .column .now) (s .pre .0)
+          (eight .kept .0 ∙ partly-part-length (s .args .count) 8 (blockAfter tree) (s .args .node) (s .args .column .now) (s .pre .0)
           (d .before .loop .b) (d .before .loop .column) (d .before .loop .inv .0) (d .loop-test .taken) _ _ (N.mul-comm 8 (d .before .loop .b)) refl)
           (omega arith) (d .before .loop .inv .1) below,
     )
@@ -134,17 +134,17 @@ loop-again c =
 same-length : tie.Need-same-length Inv-loop μ-loop
 same-length c =
     let s = c .before .before .before .before .args in
-    partly-same (s .count) 8 (turned (s .tree .now)) (s .node) (s .column .now) (c .before .loop .b) (c .before .loop .column) (c .before .loop .inv .0)
+    partly-same (s .count) 8 (blockAfter (s .tree .now)) (s .node) (s .column .now) (c .before .loop .b) (c .before .loop .column) (c .before .loop .inv .0)
 
 returns : tie.Need-returns Inv-loop μ-loop
 returns c =
     let s = c .before .before .before .before in
     let b = c .before .loop .b in
     let column = c .before .loop .column in
-    let same = partly-same (s .args .count) 8 (turned (s .args .tree .now)) (s .args .node) (s .args .column .now) b column (c .before .loop .inv .0) in
+    let same = partly-same (s .args .count) 8 (blockAfter (s .args .tree .now)) (s .args .node) (s .args .column .now) b column (c .before .loop .inv .0) in
     let all = take-all (8 * b) column (omega (arith, same, s .pre .0)) in
     sym (reduced-same column (subst Words all (c .before .loop .inv .1)))
-    ∙ turn-end (s .args .count) 8 (turned (s .args .tree .now)) (s .args .node) (reducedWords (s .args .column .now))
+    ∙ turn-end (s .args .count) 8 (blockAfter (s .args .tree .now)) (s .args .node) (reducedWords (s .args .column .now))
     b (reducedWords column) (c .before .loop .inv .0 .turn) (c .loop-test .left)
 
 pub eights-spec : {M : Type 1} → statement M

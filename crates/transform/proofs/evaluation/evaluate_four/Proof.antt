@@ -13,8 +13,8 @@ use Rattle.transform.proofs.evaluation.evaluate_four.Tie as tie
 power-point-requires : tie.Need-power-point-requires
 power-point-requires c κs = search needs
 
-four-turned-requires : tie.Need-four-turned-requires
-four-turned-requires c κs =
+four-negated-requires : tie.Need-four-negated-requires
+four-negated-requires c κs =
     let s = c .before .before .before in
     let x-word = c .before .power-point .ensures .1 .0 in
     (s .pre .size, x-word, x-word, partly-words (s .args .column .now) (column-words 2 (s .args .column .now) (s .pre)))
@@ -24,7 +24,7 @@ same-length c = search needs
 
 returns : tie.Need-returns
 returns c =
-    let four = c .before .before .four-turned in
+    let four = c .before .before .four-negated in
     let point = c .before .before .before .before .power-point in
     let s = c .before .before .before .before .before .before in
     let x = point .result .x .0 in
@@ -33,4 +33,4 @@ returns c =
 
 pub evaluate-four-spec : {M : Type 1} → statement M
 evaluate-four-spec =
-    tie.close (tie.spec power-point-requires four-turned-requires same-length returns)
+    tie.close (tie.spec power-point-requires four-negated-requires same-length returns)

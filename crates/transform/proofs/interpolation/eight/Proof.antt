@@ -22,17 +22,17 @@ four-requires c κs =
     let s = c .before .before in
     (first-length (s .args .block .now) (s .pre .0), search needs, search needs, partly-take 4 (s .args .block .now) (s .pre .3))
 
-sub-four-turned : tie.Need-sub-four-turned
-sub-four-turned c = search needs
+sub-four-negated : tie.Need-sub-four-negated
+sub-four-negated c = search needs
 
-part-four-turned-start : tie.Need-part-four-turned-start
-part-four-turned-start c = search needs
+part-four-negated-start : tie.Need-part-four-negated-start
+part-four-negated-start c = search needs
 
-part-four-turned-end : tie.Need-part-four-turned-end
-part-four-turned-end c = search needs
+part-four-negated-end : tie.Need-part-four-negated-end
+part-four-negated-end c = search needs
 
-four-turned-requires : tie.Need-four-turned-requires
-four-turned-requires c κs =
+four-negated-requires : tie.Need-four-negated-requires
+four-negated-requires c κs =
     let four = c .before .before .before .four in
     let s = c .before .before .before .before .before .before in
     let size = four .kept .0 ∙ first-length (s .args .block .now) (s .pre .0) in
@@ -43,14 +43,14 @@ same-length c = search needs
 
 returns : tie.Need-returns
 returns c =
-    let turned = c .before .before .four-turned in
+    let negated = c .before .before .four-negated in
     let four = c .before .before .before .before .before .before .four in
     let s = c .before .before .before .before .before .before .before .before .before in
     let x = s .args .x in
     let y = s .args .y in
     partly-parts (s .args .block .now) (s .pre .0) (four .last .0) (four .kept .0 ∙ first-length (s .args .block .now) (s .pre .0))
-    (interpolateBlock words31 2 (pairTwiddle x y (negP y)) 0) (interpolateBlock words31 2 (pairTwiddle y (negP x) x) 0) (turned .last .0)
-    (four .ensures .0) (four .ensures .1) (turned .ensures .0) (turned .ensures .1)
+    (interpolateBlock words31 2 (pairTwiddle x y (negP y)) 0) (interpolateBlock words31 2 (pairTwiddle y (negP x) x) 0) (negated .last .0)
+    (four .ensures .0) (four .ensures .1) (negated .ensures .0) (negated .ensures .1)
 
 pub eight-spec : {M : Type 1} → statement M
 eight-spec =
@@ -60,9 +60,9 @@ eight-spec =
     part-four-start
     part-four-end
     four-requires
-    sub-four-turned
-    part-four-turned-start
-    part-four-turned-end
-    four-turned-requires
+    sub-four-negated
+    part-four-negated-start
+    part-four-negated-end
+    four-negated-requires
     same-length
     returns)

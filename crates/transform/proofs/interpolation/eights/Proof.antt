@@ -14,9 +14,9 @@ use Rattle.transform.proofs.BlockLoops.{turn-end, PartlyTurn, partly-st
 use Rattle.transform.proofs.interpolation.eights.Statement.{statement}
 use Rattle.transform.proofs.interpolation.eights.Tie as tie
 
--- what a turn does to its block
-abbrev turned : List ℕ → ℕ → List ℕ → List ℕ
-turned tree j = interpolateEight (getD tree (2 * j) 0) (getD tree (2 * j + 1) 0)
+-- what the loop makes of block j
+abbrev blockAfter : List ℕ → ℕ → List ℕ → List ℕ
+blockAfter tree j = interpolateEight (getD tree (2 * j) 0) (getD tree (2 * j + 1) 0)
 
 abbrev first : ℕ → ℕ → List ℕ → List ℕ
 first x y = interpolateBlock words31 2 (pairTwiddle x y (negP y)) 0
@@ -25,7 +25,7 @@ abbrev second : ℕ → ℕ → List ℕ → List ℕ
 second x y = interpolateBlock words31 2 (pairTwiddle y (negP x) x) 0
 
 abbrev Inv-loop : tie.InvT-loop
-Inv-loop column₀ tree node count b₀ column b = PartlyTurn count 8 (turned tree) node column₀ b column
+Inv-loop column₀ tree node count b₀ column b = PartlyTurn count 8 (blockAfter tree) node column₀ b column
 
 abbrev μ-loop : tie.MeasureT-loop
 μ-loop column₀ tree node count b₀ column b = count - b
@@ -34,13 +34,13 @@ in-column : (d : tie.In-loop Inv-loop μ-loop)
     → (8 * d .before .loop .b + 8 ≤ length (d .before .loop .column)) × (length (d .before .loop .column) ≡ length (d .before .before .before .before .args .column .now))
 in-column d =
     let s = d .before .before .before .before in
-    partly-inside (s .args .count) 8 (turned (s .args .tree .now)) (s .args .node) (s .args .column .now) (s .pre .0)
+    partly-inside (s .args .count) 8 (blockAfter (s .args .tree .now)) (s .args .node) (s .args .column .now) (s .pre .0)
     (d .before .loop .b) (d .before .loop .column) (d .before .loop .inv) (d .loop-test .taken) _ _ (N.mul-comm 8 (d .before .loop .b)) refl
 
 loop-holds : tie.Need-loop-holds Inv-loop μ-loop
 loop-holds c =
     let s = c .before .before in
-    partly-start (s .args .count) 8 (turned (s .args .tree .now)) (s .args .node) (s .args .column .now) (s .pre .2)
+    partly-start (s .args .count) 8 (blockAfter (s .args .tree .now)) (s .args .node) (s .args .column .now) (s .pre .2)
 
 mul-start : tie.Need-mul-start Inv-loop μ-loop
 mul-start c = omega (arith, in-column c .0, in-column c .1)
@@ -87,11 +87,11 @@ eight-requires c κs =
     let s = d .before .before .before .before in
     let tree = s .args .tree .now in
     let child = 2 * (s .args .node + d .before .loop .b) in (
-      partly-part-length (s .args .count) 8 (turned tree) (s .args .node) (s .args .column .now) (s .pre .0)
+      partly-part-length (s .args .count) 8 (blockAfter tree) (s .args .node) (s .args .column .now) (s .pre .0)
           (d .before .loop .b) (d .before .loop .column) (d .before .loop .inv) (d .loop-test .taken) _ _ (N.mul-comm 8 (d .before .loop .b)) refl,
       s .pre .3 child,
       s .pre .3 (child + 1),
-      partly-part (s .args .count) 8 (turned tree) (s .args .node) (s .args .column .now) (s .pre .0)
+      partly-part (s .args .count) 8 (blockAfter tree) (s .args .node) (s .args .column .now) (s .pre .0)
           (d .before .loop .b) (d .before .loop .column) (d .before .loop .inv) (d .loop-test .taken) _ _ (N.mul-comm 8 (d .before .loop .b)) refl,
     )
 
@@ -106,7 +106,7 @@ loop-again c =
     let d = c .before .before .before .before .before .before in
     let s = d .before .before .before .before in
     let tree = s .args .tree .now in
-    partly-next (s .args .count) 8 (turned tree) (s .args .node) (s .args .column .now) (s .pre .0)
+    partly-next (s .args .count) 8 (blockAfter tree) (s .args .node) (s .args .column .now) (s .pre .0)
     (d .before .loop .b) (d .before .loop .column) (d .before .loop .inv) (d .loop-test .taken) _ _ (N.mul-comm 8 (d .before .loop .b)) refl
     (λ j l e. let x = getD tree (2 * j) 0 in let y = getD tree (2 * j + 1) 0 in
     eight-length (first x y) (second x y) (λ l e. interpolate-length words31 2 _ 0 l e) (λ l e. interpolate-length words31 2 _ 0 l e) l e)
@@ -115,12 +115,12 @@ loop-again c =
 same-length : tie.Need-same-length Inv-loop μ-loop
 same-length c =
     let s = c .before .before .before .before .args in
-    partly-same (s .count) 8 (turned (s .tree .now)) (s .node) (s .column .now) (c .before .loop .b) (c .before .loop .column) (c .before .loop .inv)
+    partly-same (s .count) 8 (blockAfter (s .tree .now)) (s .node) (s .column .now) (c .before .loop .b) (c .before .loop .column) (c .before .loop .inv)
 
 returns : tie.Need-returns Inv-loop μ-loop
 returns c =
     let s = c .before .before .before .before .args in (
-      turn-end (s .count) 8 (turned (s .tree .now)) (s .node) (reducedWords (s .column .now))
+      turn-end (s .count) 8 (blockAfter (s .tree .now)) (s .node) (reducedWords (s .column .now))
           (c .before .loop .b) (reducedWords (c .before .loop .column)) (c .before .loop .inv .turn) (c .loop-test .left),
       c .before .loop .inv .partly,
     )

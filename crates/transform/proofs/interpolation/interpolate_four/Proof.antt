@@ -23,8 +23,8 @@ add-requires c κs = search needs
 sum-below : (r x : ℕ) → r ≡ addP x x → r < P
 sum-below r x e = rw e (m31-representation .add-reduced x x)
 
-four-turned-requires : tie.Need-four-turned-requires
-four-turned-requires c κs =
+four-negated-requires : tie.Need-four-negated-requires
+four-negated-requires c κs =
     let s = c .before .before .before .before in
     let word = sum-below (c .before .add .result) (c .before .before .power-point .result .x .0) (c .before .add .ensures) in
     (s .pre .size, word, word, partly-words (s .args .column .now) (column-words 2 (s .args .column .now) (s .pre)))
@@ -34,7 +34,7 @@ same-length c = search needs
 
 returns : tie.Need-returns
 returns c =
-    let four = c .before .before .four-turned in
+    let four = c .before .before .four-negated in
     let sum = c .before .before .before .before .add in
     let point = c .before .before .before .before .before .power-point in
     let s = c .before .before .before .before .before .before .before in
@@ -44,4 +44,4 @@ returns c =
 pub interpolate-four-spec : {M : Type 1} → statement M
 interpolate-four-spec =
     tie.close
-    (tie.spec power-point-requires add-requires four-turned-requires same-length returns)
+    (tie.spec power-point-requires add-requires four-negated-requires same-length returns)

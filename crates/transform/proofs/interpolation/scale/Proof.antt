@@ -15,14 +15,14 @@ abbrev μ-loop : tie.MeasureT-loop
 loop-holds : tie.Need-loop-holds Inv-loop μ-loop
 loop-holds c = scaled-start (2 ^ c .before .args .s) (c .before .args .column .now)
 
-mul-turned : tie.Need-mul-turned Inv-loop μ-loop
-mul-turned c = search needs
+mul-rotated : tie.Need-mul-rotated Inv-loop μ-loop
+mul-rotated c = search needs
 
-slice-read-turned : tie.Need-slice-read-turned Inv-loop μ-loop
-slice-read-turned c = omega arith
+slice-read-rotated : tie.Need-slice-read-rotated Inv-loop μ-loop
+slice-read-rotated c = omega arith
 
-turned-requires : tie.Need-turned-requires Inv-loop μ-loop
-turned-requires c κs =
+rotated-requires : tie.Need-rotated-requires Inv-loop μ-loop
+rotated-requires c κs =
     let d = c .before in
     let s = d .before .before .before in
     (next-word (2 ^ s .args .s) (s .args .column .now) (d .before .loop .i) (d .before .loop .column) (d .before .loop .inv) (d .loop-test .taken) (s .pre .2), search needs, search needs)
@@ -44,7 +44,7 @@ loop-again c =
     let d = c .before .before in
     let s = d .before .before .before in
     scaled-next (2 ^ s .args .s) (s .args .column .now) (d .before .loop .i) (d .before .loop .column) (d .before .loop .inv) (d .loop-test .taken)
-    (c .turned .result) (c .turned .ensures)
+    (c .rotated .result) (c .rotated .ensures)
 
 same-length : tie.Need-same-length Inv-loop μ-loop
 same-length c = c .before .loop .inv .same
@@ -61,9 +61,9 @@ scale-spec =
     Inv-loop
     μ-loop
     loop-holds
-    mul-turned
-    slice-read-turned
-    turned-requires
+    mul-rotated
+    slice-read-rotated
+    rotated-requires
     mul-column
     slice-write-column
     add-i

@@ -1,4 +1,4 @@
-use Rattle.fields.specs.PairLaws.{pair}
+use Rattle.fields.specs.PairLaws.{pair-path}
 use borrow.Author.Needs.{needs}
 use Rattle.circle.proofs.point.inner.antipode.Statement.{statement}
 use Rattle.circle.proofs.point.inner.antipode.Tie as tie
@@ -10,7 +10,7 @@ neg-requires-2 : tie.Need-neg-requires-2
 neg-requires-2 c κs = search needs
 
 returns : tie.Need-returns
-returns c = (pair (search needs) (search needs), (search needs, search needs))
+returns c = (pair-path (search needs) (search needs), (search needs, search needs))
 
 pub antipode-spec : {M : Type 1} → statement M
 antipode-spec = tie.close (tie.spec neg-requires neg-requires-2 returns)

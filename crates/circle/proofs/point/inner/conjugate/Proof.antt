@@ -1,4 +1,4 @@
-use Rattle.fields.specs.PairLaws.{pair}
+use Rattle.fields.specs.PairLaws.{pair-path}
 use borrow.Author.Needs.{needs}
 use Rattle.circle.proofs.point.inner.conjugate.Statement.{statement}
 use Rattle.circle.proofs.point.inner.conjugate.Tie as tie
@@ -7,7 +7,7 @@ neg-requires : tie.Need-neg-requires
 neg-requires c κs = search needs
 
 returns : tie.Need-returns
-returns c = (pair (search needs) (search needs), (search needs, search needs))
+returns c = (pair-path (search needs) (search needs), (search needs, search needs))
 
 pub conjugate-spec : {M : Type 1} → statement M
 conjugate-spec = tie.close (tie.spec neg-requires returns)

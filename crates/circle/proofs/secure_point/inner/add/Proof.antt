@@ -1,7 +1,7 @@
 use mathlib.Core.Path.{_∙_, ap₂}
 use Rattle.algebra.specs.Ring.{sub}
 use Rattle.fields.specs.Words.{quarticWords}
-use Rattle.fields.specs.PairLaws.{pair}
+use Rattle.fields.specs.PairLaws.{pair-path}
 use borrow.Author.Needs.{needs}
 use Rattle.circle.proofs.secure_point.inner.add.Statement.{statement}
 use Rattle.circle.proofs.secure_point.inner.add.Tie as tie
@@ -26,7 +26,7 @@ add-requires c κs = search needs
 
 returns : tie.Need-returns
 returns c = (
-  pair (c .before .before .before .sub .ensures .0 ∙ ap₂ (sub quarticWords) (c .before .before .before .before .before .mul .ensures .0) (c .before .before .before .before .mul2 .ensures .0))
+  pair-path (c .before .before .before .sub .ensures .0 ∙ ap₂ (sub quarticWords) (c .before .before .before .before .before .mul .ensures .0) (c .before .before .before .before .mul2 .ensures .0))
       (c .add .ensures .0 ∙ ap₂ (quarticWords .add) (c .before .before .mul3 .ensures .0) (c .before .mul4 .ensures .0)),
   (c .before .before .before .sub .ensures .1, c .add .ensures .1),
 )

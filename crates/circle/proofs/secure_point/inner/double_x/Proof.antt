@@ -5,7 +5,7 @@ use Rattle.algebra.specs.Tower.{qm31}
 use Rattle.fields.specs.Words.{quarticWords}
 use Rattle.fields.specs.Inverse.{qm31-representation}
 use Rattle.fields.specs.QM31.{pairsOf, Reduced}
-use Rattle.circle.specs.Points.{twice}
+use Rattle.circle.specs.Points.{add-self-two}
 use Rattle.fields.specs.declared.qm31.QM31.{QM31}
 use borrow.Author.Needs.{needs}
 use Rattle.circle.proofs.secure_point.inner.double_x.Statement.{statement}
@@ -26,7 +26,7 @@ sub-requires c κs = (c .before .add .ensures .1, subst (λ (a : QM31). Reduced 
 returns : tie.Need-returns
 returns c = (
   c .sub .ensures .0
-      ∙ ap₂ (sub quarticWords) (c .before .before .add .ensures .0 ∙ twice quarticWords qm31 qm31-representation (pairsOf (c .before .before .before .mul .result)) ∙ ap (quarticWords .mul (two quarticWords)) (c .before .before .before .mul .ensures .0))
+      ∙ ap₂ (sub quarticWords) (c .before .before .add .ensures .0 ∙ add-self-two quarticWords qm31 qm31-representation (pairsOf (c .before .before .before .mul .result)) ∙ ap (quarticWords .mul (two quarticWords)) (c .before .before .before .mul .ensures .0))
       (ap (λ (a : QM31). pairsOf a) (c .before .one .ensures)),
   c .sub .ensures .1,
 )

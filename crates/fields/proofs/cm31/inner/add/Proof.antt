@@ -1,5 +1,5 @@
 use borrow.Author.Needs.{needs}
-use Rattle.fields.specs.PairLaws.{pair}
+use Rattle.fields.specs.PairLaws.{pair-path}
 use Rattle.fields.proofs.cm31.inner.add.Statement.{statement}
 use Rattle.fields.proofs.cm31.inner.add.Tie as tie
 
@@ -10,7 +10,7 @@ add-requires-2 : tie.Need-add-requires-2
 add-requires-2 c κs = search needs
 
 returns : tie.Need-returns
-returns c = (pair (search needs) (search needs), (search needs, search needs))
+returns c = (pair-path (search needs) (search needs), (search needs, search needs))
 
 pub add-spec : {M : Type 1} → statement M
 add-spec = tie.close (tie.spec add-requires add-requires-2 returns)

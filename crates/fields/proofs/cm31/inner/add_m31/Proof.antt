@@ -4,7 +4,7 @@ use Rattle.algebra.specs.M31.{m31}
 use Rattle.fields.specs.Words.{words31, negP}
 use Rattle.fields.specs.Representation.{add-embed}
 use Rattle.fields.specs.Inverse.{m31-representation}
-use Rattle.fields.specs.PairLaws.{pair}
+use Rattle.fields.specs.PairLaws.{pair-path}
 use Rattle.fields.proofs.cm31.inner.add_m31.Statement.{statement}
 use Rattle.fields.proofs.cm31.inner.add_m31.Tie as tie
 
@@ -12,7 +12,7 @@ add-requires : tie.Need-add-requires
 add-requires c κs = search needs
 
 returns : tie.Need-returns
-returns c = (pair (c .add .ensures) refl ∙ add-embed words31 m31 m31-representation (negP 1) (c .before .args .a .0 .0) (c .before .args .a .1 .0) (c .before .args .b) (search needs), (search needs, search needs))
+returns c = (pair-path (c .add .ensures) refl ∙ add-embed words31 m31 m31-representation (negP 1) (c .before .args .a .0 .0) (c .before .args .a .1 .0) (c .before .args .b) (search needs), (search needs, search needs))
 
 pub add-m31-spec : {M : Type 1} → statement M
 add-m31-spec = tie.close (tie.spec add-requires returns)

@@ -1,5 +1,5 @@
 use borrow.Author.Needs.{needs}
-use Rattle.fields.specs.PairLaws.{inverse}
+use Rattle.fields.specs.PairLaws.{complex-inverse}
 use Rattle.fields.specs.CM31.{pairOf}
 use Rattle.fields.proofs.cm31.inner.inverse.Statement.{statement}
 use Rattle.fields.proofs.cm31.inner.inverse.Tie as tie
@@ -27,7 +27,7 @@ neg-requires c κs = search needs
 
 returns : tie.Need-returns
 returns c = (
-  inverse (pairOf (c .before .before .before .before .before .before .before .args .a))
+  complex-inverse (pairOf (c .before .before .before .before .before .before .before .args .a))
       (c .before .before .before .before .before .before .mul .ensures) (c .before .before .before .before .before .mul2 .ensures) (c .before .before .before .before .add .ensures) (c .before .before .before .pow2147483645 .ensures) (c .before .before .mul3 .ensures) (c .before .mul4 .ensures) (c .neg .ensures),
   (search needs, search needs),
 )

@@ -1,6 +1,6 @@
 use borrow.Author.Needs.{needs}
 use Rattle.fields.specs.CM31.{pairOf}
-use Rattle.fields.proofs.ProductSums.{product}
+use Rattle.fields.proofs.ProductSums.{complex-product}
 use Rattle.fields.proofs.cm31.inner.mul.Statement.{statement}
 use Rattle.fields.proofs.cm31.inner.mul.Tie as tie
 
@@ -33,7 +33,7 @@ reduce-two-requires-2 c κs = search needs
 
 returns : tie.Need-returns
 returns c = (
-  product (pairOf (c .before .before .before .before .before .before .args .a)) (pairOf (c .before .before .before .before .before .before .args .b))
+  complex-product (pairOf (c .before .before .before .before .before .before .args .a)) (pairOf (c .before .before .before .before .before .before .args .b))
       (c .before .before .before .before .before .product .ensures .0) (c .before .before .before .before .product2 .ensures .0) (c .before .before .before .product3 .ensures .0) (c .before .before .product4 .ensures .0)
       (c .before .before .before .before .product2 .ensures .1) (c .before .reduce-two .ensures) (c .reduce-two2 .ensures),
   (search needs, search needs),

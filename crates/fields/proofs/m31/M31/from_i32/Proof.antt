@@ -7,7 +7,7 @@ use lib.Signed.{mag}
 use mir.Syntax.{w32}
 use Rattle.algebra.specs.M31.{P}
 use Rattle.fields.specs.M31.{ofWord, residueOf}
-use Rattle.fields.specs.Signed.{is-negative, plus-one-fits, negated-fits, negated-reads, is-positive, positive-reads}
+use Rattle.fields.specs.Signed.{is-negative, plus-one-fits, negated-fits, negated-reads, is-nonnegative, nonnegative-reads}
 use Rattle.fields.proofs.Reductions.{two-P-less}
 use Rattle.fields.proofs.m31.M31.from_i32.Statement.{statement}
 use Rattle.fields.proofs.m31.M31.from_i32.Tie as tie
@@ -44,12 +44,12 @@ returns c =
 
 cast-reduce : tie.Need-cast-reduce
 cast-reduce c =
-    rw (positive-reads w32 (c .before .args .value) (c .before .fits .value) (c .if1 .left))
+    rw (nonnegative-reads w32 (c .before .args .value) (c .before .fits .value) (c .if1 .left))
     (tt, record { fits = omega (arith, c .before .fits .value .sfits) })
 
 reduce-requires-2 : tie.Need-reduce-requires-2
 reduce-requires-2 c κs =
-    rw (positive-reads w32 (c .before .args .value) (c .before .fits .value) (c .if1 .left))
+    rw (nonnegative-reads w32 (c .before .args .value) (c .before .fits .value) (c .if1 .left))
     (omega (arith, c .before .fits .value .sfits))
 
 returns-2 : tie.Need-returns-2
@@ -59,8 +59,8 @@ returns-2 c =
     let t = c .before .if1 .left in
     ap ofWord
     (c .reduce2 .ensures
-    ∙ ap (λ (z : ℤ). natAbs z % P) (positive-reads w32 x s t)
-    ∙ ap residueOf (sym (is-positive w32 x s t)))
+    ∙ ap (λ (z : ℤ). natAbs z % P) (nonnegative-reads w32 x s t)
+    ∙ ap residueOf (sym (is-nonnegative w32 x s t)))
 
 pub from-i32-spec : {M : Type 1} → statement M
 from-i32-spec =

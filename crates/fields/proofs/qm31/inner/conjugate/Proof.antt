@@ -1,6 +1,6 @@
 use mathlib.Core.Path.{refl}
 use borrow.Author.Needs.{needs}
-use Rattle.fields.specs.PairLaws.{pair}
+use Rattle.fields.specs.PairLaws.{pair-path}
 use Rattle.fields.proofs.qm31.inner.conjugate.Statement.{statement}
 use Rattle.fields.proofs.qm31.inner.conjugate.Tie as tie
 
@@ -8,7 +8,7 @@ neg-requires : tie.Need-neg-requires
 neg-requires c κs = search needs
 
 returns : tie.Need-returns
-returns c = (pair refl (c .neg .ensures .0), (search needs, c .neg .ensures .1))
+returns c = (pair-path refl (c .neg .ensures .0), (search needs, c .neg .ensures .1))
 
 pub conjugate-spec : {M : Type 1} → statement M
 conjugate-spec = tie.close (tie.spec neg-requires returns)

@@ -1,5 +1,5 @@
 use borrow.Author.Needs.{needs}
-use Rattle.fields.specs.PairLaws.{pair}
+use Rattle.fields.specs.PairLaws.{pair-path}
 use Rattle.fields.proofs.qm31.inner.mul.Statement.{statement}
 use Rattle.fields.proofs.qm31.inner.mul.Tie as tie
 
@@ -10,7 +10,7 @@ mul-second-requires : tie.Need-mul-second-requires
 mul-second-requires c κs = search needs
 
 returns : tie.Need-returns
-returns c = (pair (c .before .mul-first .ensures .0) (c .mul-second .ensures .0), (c .before .mul-first .ensures .1, c .mul-second .ensures .1))
+returns c = (pair-path (c .before .mul-first .ensures .0) (c .mul-second .ensures .0), (c .before .mul-first .ensures .1, c .mul-second .ensures .1))
 
 pub mul-spec : {M : Type 1} → statement M
 mul-spec = tie.close (tie.spec mul-first-requires mul-second-requires returns)

@@ -1,5 +1,5 @@
 use borrow.Author.Needs.{needs}
-use Rattle.fields.specs.PairLaws.{pair}
+use Rattle.fields.specs.PairLaws.{pair-path}
 use Rattle.fields.proofs.qm31.inner.sub.Statement.{statement}
 use Rattle.fields.proofs.qm31.inner.sub.Tie as tie
 
@@ -10,7 +10,7 @@ sub-requires-2 : tie.Need-sub-requires-2
 sub-requires-2 c κs = search needs
 
 returns : tie.Need-returns
-returns c = (pair (c .before .sub .ensures .0) (c .sub2 .ensures .0), (c .before .sub .ensures .1, c .sub2 .ensures .1))
+returns c = (pair-path (c .before .sub .ensures .0) (c .sub2 .ensures .0), (c .before .sub .ensures .1, c .sub2 .ensures .1))
 
 pub sub-spec : {M : Type 1} → statement M
 sub-spec = tie.close (tie.spec sub-requires sub-requires-2 returns)

@@ -15,7 +15,7 @@ abbrev μ-loop : tie.MeasureT-loop
 loop-holds : tie.Need-loop-holds Inv-loop μ-loop
 loop-holds c =
     let entry = c .before in
-    (search needs, no-block (entry .args .log-size) (entry .pre .least) (entry .args .v .now) (entry .pre .power))
+    (search needs, no-block (entry .args .log-size) (entry .pre .least) (entry .args .v .now) (entry .pre .size-is-pow))
 
 sub-bit-reverse-index : tie.Need-sub-bit-reverse-index Inv-loop μ-loop
 sub-bit-reverse-index c = search needs
@@ -27,7 +27,7 @@ swap-block-requires : tie.Need-swap-block-requires Inv-loop μ-loop
 swap-block-requires c κs =
     let head = c .before .before .before in
     let entry = head .before .before in
-    block-room (entry .args .log-size) (entry .pre .least) (entry .args .v .now) (entry .pre .power) (head .loop .x) _ (head .loop .v)
+    block-room (entry .args .log-size) (entry .pre .least) (entry .args .v .now) (entry .pre .size-is-pow) (head .loop .x) _ (head .loop .v)
     (search needs) (c .before .bit-reverse-index .ensures) (head .loop .inv .1)
 
 add-x : tie.Need-add-x Inv-loop μ-loop
@@ -44,7 +44,7 @@ loop-again c =
     let l = entry .args .v .now in (
       search needs,
       subst (Blocks n l (head .loop .x + 1)) (sym (c .before .before .swap-block .ensures))
-          (next-block n (entry .pre .least) l (entry .pre .power) (length l / 4) (head .loop .x) _ (head .loop .v) refl (search needs)
+          (next-block n (entry .pre .least) l (entry .pre .size-is-pow) (length l / 4) (head .loop .x) _ (head .loop .v) refl (search needs)
           (c .before .before .before .before .bit-reverse-index .ensures) (head .loop .inv .1)),
     )
 
@@ -55,7 +55,7 @@ returns : tie.Need-returns Inv-loop μ-loop
 returns c =
     let head = c .before in
     let entry = head .before .before in
-    all-blocks (entry .args .log-size) (entry .pre .least) (entry .args .v .now) (entry .pre .power) (head .loop .x) (head .loop .v)
+    all-blocks (entry .args .log-size) (entry .pre .least) (entry .args .v .now) (entry .pre .size-is-pow) (head .loop .x) (head .loop .v)
     (search needs) (head .loop .inv .1)
 
 pub bit-reverse-blocks-spec : {M : Type 1} → statement M

@@ -6,9 +6,9 @@ use borrow.Author.Needs.{needs}
 use Rattle.algebra.specs.M31.{P}
 use Rattle.transform.specs.Tree.{reducedWords}
 use Rattle.transform.proofs.Partly.{reduced-length, reduced-at, partly-inverse-sum, partly-inverse-difference}
-use Rattle.transform.proofs.Fours.{four-reduced, four-partly, turned-interpolated}
-use Rattle.transform.proofs.interpolation.four_turned.Statement.{statement}
-use Rattle.transform.proofs.interpolation.four_turned.Tie as tie
+use Rattle.transform.proofs.Fours.{four-reduced, four-partly, negated-interpolated}
+use Rattle.transform.proofs.interpolation.four_negated.Statement.{statement}
+use Rattle.transform.proofs.interpolation.four_negated.Tie as tie
 
 slice-read-a : tie.Need-slice-read-a
 slice-read-a c = search needs
@@ -87,15 +87,15 @@ returns c =
     let third = c .before .before .mul-partly3 .ensures in
     let fourth = c .mul-partly4 .ensures in (
       four-reduced block _ _ _ _
-          ∙ turned-interpolated (s .args .w) (s .args .v) (reducedWords block) (reduced-length block ∙ s .pre .0) _ _ _ _
+          ∙ negated-interpolated (s .args .w) (s .args .v) (reducedWords block) (reduced-length block ∙ s .pre .0) _ _ _ _
           (partly-inverse-sum _ _ _ _ p m _ (first .0)) (partly-inverse-sum _ _ _ _ q n _ (second .0))
           (partly-inverse-difference _ _ _ _ p m (s .args .w) _ _ (c .before .before .before .sub-partly3 .ensures .0) (third .0))
           (partly-inverse-difference _ _ _ _ q n (s .args .w) _ _ (c .before .sub-partly4 .ensures .0) (fourth .0)),
       four-partly block _ _ _ _ (s .pre .3) (first .1) (second .1) (third .1) (fourth .1),
     )
 
-pub four-turned-spec : {M : Type 1} → statement M
-four-turned-spec =
+pub four-negated-spec : {M : Type 1} → statement M
+four-negated-spec =
     tie.close
     (tie.spec
     slice-read-a

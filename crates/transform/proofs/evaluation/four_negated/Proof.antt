@@ -6,9 +6,9 @@ use Rattle.fields.specs.Words.{words31}
 use Rattle.column.specs.Butterflies.{butterflySum, butterflyDifference}
 use Rattle.transform.specs.Tree.{reducedWords}
 use Rattle.transform.proofs.Partly.{reduced-length, product-partly, reduced-sum, reduced-difference}
-use Rattle.transform.proofs.Fours.{upperSum, upperDifference, lower-sum, lower-difference, upper-sum, upper-difference, turned-evaluated}
-use Rattle.transform.proofs.evaluation.four_turned.Statement.{statement}
-use Rattle.transform.proofs.evaluation.four_turned.Tie as tie
+use Rattle.transform.proofs.Fours.{upperSum, upperDifference, lower-sum, lower-difference, upper-sum, upper-difference, negated-evaluated}
+use Rattle.transform.proofs.evaluation.four_negated.Statement.{statement}
+use Rattle.transform.proofs.evaluation.four_negated.Tie as tie
 
 slice-read-partial-reduce : tie.Need-slice-read-partial-reduce
 slice-read-partial-reduce c = search needs
@@ -91,14 +91,14 @@ returns c =
     let n = upper-difference w block (second .result) (second .ensures .0) _ (c .before .before .before .before .before .sub-partly .ensures .0) in
     let third = product-partly _ _ _ _ (c .before .before .before .before .before .before .before .mul-partly3 .ensures .0) q in
     let fourth = product-partly _ _ _ _ (c .before .before .before .before .mul-partly4 .ensures .0) n in
-    turned-evaluated w v block (reducedWords block) (s .pre .0) (reduced-length block ∙ s .pre .0) _ _ _ _
+    negated-evaluated w v block (reducedWords block) (s .pre .0) (reduced-length block ∙ s .pre .0) _ _ _ _
     (reduced-difference _ _ _ _ third _ (c .before .before .before .sub2 .ensures) ∙ ap (λ (t : ℕ). butterflyDifference words31 v t (upperSum w (reducedWords block))) p)
     (reduced-sum _ _ _ _ third _ (c .before .before .add2 .ensures) ∙ ap (λ (t : ℕ). butterflySum words31 v t (upperSum w (reducedWords block))) p)
     (reduced-sum _ _ _ _ fourth _ (c .before .add3 .ensures) ∙ ap (λ (t : ℕ). butterflySum words31 v t (upperDifference w (reducedWords block))) m)
     (reduced-difference _ _ _ _ fourth _ (c .sub3 .ensures) ∙ ap (λ (t : ℕ). butterflyDifference words31 v t (upperDifference w (reducedWords block))) m)
 
-pub four-turned-spec : {M : Type 1} → statement M
-four-turned-spec =
+pub four-negated-spec : {M : Type 1} → statement M
+four-negated-spec =
     tie.close
     (tie.spec
     slice-read-partial-reduce
