@@ -90,7 +90,7 @@ module _ (m : ℕ) (pos : zero < m) where
   residue-neg a h =
       R.neg-unique zmod zmod-laws (residue a) (residue (m - a)) (sym (residue-add a (m - a)) ∙ ap residue (omega arith) ∙ residue-self)
 
-  -- it is onto, and one-to-one below m
+  -- the class map is onto, and one-to-one below m
   pub residue-val : (a : Z m) → residue (a .val) ≡ a
   unfolding residue
   residue-val a = Z-path _ _ (N.mod-eq-of-lt (val-below a))

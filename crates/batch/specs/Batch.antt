@@ -86,12 +86,12 @@ module _ (F : ColumnField) where
   unfoldable pub wordsAnswer : List ℕ → WriteAnswer
   wordsAnswer column = checked (words column ++ nonzero column) Refused Written
 
-  -- such lengths, else number 8; then the words
+  -- lengths that fit, else number 8; then the words
   unfoldable pub inPlaceAnswer : List ℕ → ℕ → WriteAnswer
   inPlaceAnswer column dst =
       checked (need (lengthsFit (length column) dst) Length ++ words column ++ nonzero column) Refused Written
 
-  -- such lengths, else number 8; a chunk size that isn't 0, else number 9; then the words
+  -- lengths that fit, else number 8; a chunk size that isn't 0, else number 9; then the words
   unfoldable pub chunkedAnswer : ℕ → List ℕ → ℕ → WriteAnswer
   chunkedAnswer chunk column dst =
       checked

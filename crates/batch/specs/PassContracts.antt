@@ -19,14 +19,14 @@ module _ (U : Units) where
     pub elements : UnitColumn U (size U column) column
     pub room : length dst ≡ length column
 
-  -- one to be inverted part after part of so many words, and a destination no shorter
+  -- a column to be inverted part after part of so many words, and a destination no shorter
   pub record InvertingParts (column dst : List ℕ) (words : ℕ) : Type 0 where
     pub elements : UnitColumn U (size U column) column
     pub room : length column ≤ length dst
     pub some : 0 < length column → 0 < words
     pub even : words ≡ words / width * width
 
-  -- both leave the inverses, and the words after them as they were
+  -- an inversion leaves the inverses, and the words after them as they were
   pub record Inverted (column dst exit : List ℕ) : Type 0 where
     pub result : exit ≡ inverted (U .layout) (U .inverse) (size U column) column dst
 
@@ -36,7 +36,7 @@ module _ (U : Units) where
     pub room : length dst ≡ length column
     pub nonempty : 0 < length column
 
-  -- it answers the product of the whole column, and leaves the products of the elements 0 to k
+  -- the pass of products answers the product of the whole column, and leaves the products of the elements 0 to k
   pub record AfterProducts (column exit : List ℕ) (answer : El) : Type 0 where
     pub whole : answer ≡ product U column (size U column - 1)
     pub products : Holds U (product U column) 0 (size U column) exit
@@ -49,6 +49,6 @@ module _ (U : Units) where
     pub products : Holds U (product U column) 0 (size U column) dst
     pub inverse : rest ≡ U .inverse (product U column (size U column - 1))
 
-  -- it leaves the inverses
+  -- the pass of inverses leaves the inverses
   pub record AfterInverses (column exit : List ℕ) : Type 0 where
     pub result : Holds U (inverses U column) 0 (size U column) exit

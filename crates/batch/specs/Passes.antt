@@ -28,7 +28,7 @@ pub record Units : Type 1 where
   pub inverse-first : (a b : layout .El) → Unit a → Unit b → mul (inverse (mul a b)) b ≡ inverse a
   pub inverse-second : (a b : layout .El) → Unit a → Unit b → mul a (inverse (mul a b)) ≡ inverse b
 
--- those of a field
+-- the units of a field
 abbrev pub fieldUnits : (W K : Ops) (H : Representation W K) (width : ℕ) (read : List ℕ → ℕ → W .El) (write : List ℕ → ℕ → W .El → List ℕ)
     → LayoutLaws (record { El = W .El; width = width; read = read; write = write }) → Units
 fieldUnits W K H width read write laws = record {
@@ -43,7 +43,7 @@ fieldUnits W K H width read write laws = record {
   inverse-second = R.inverse-second W K H;
 }
 
--- two side by side, each by itself
+-- units two side by side, each by itself
 abbrev pub pairUnits : Units → Units
 pairUnits U = record {
   layout = pairLayout (U .layout);
@@ -57,7 +57,7 @@ pairUnits U = record {
   inverse-second = λ a b u v i. (U .inverse-second (a .0) (b .0) (u .0) (v .0) i, U .inverse-second (a .1) (b .1) (u .1) (v .1) i);
 }
 
--- four side by side: the lanes
+-- units four side by side: the lanes
 abbrev pub laneUnits : Units → Units
 laneUnits U = pairUnits (pairUnits U)
 

@@ -77,7 +77,7 @@ fn first_zero(field: Field, column: &[u32]) -> usize
 }
 
 // Whether every word is from 1 to P - 1. Just then a word less 1 and a word plus 1, both modulo 2^32, are below 2^31.
-// It looks at all words without a branch, so that a long column costs little more than its inversion.
+// It looks at all words without a branch; only a column that has a bad word or a zero is searched for it.
 fn all_invertible(column: &[u32]) -> bool
     ensures { λ r. ⌜ (r ≡ true → wordsAnswer m31Column (now (column .entry)) ≡ Written) ⌝ }
 {
@@ -192,7 +192,7 @@ pub fn batch_inverse_in_place(field: Field, column: &[u32], dst: &mut [u32]) -> 
     WriteAnswer::Written
 }
 
-// The same, chunk by chunk of so many elements.
+// Element k of the destination becomes the inverse of element k of the column, chunk by chunk of so many elements.
 pub fn batch_inverse_chunked(
     field: Field,
     column: &[u32],

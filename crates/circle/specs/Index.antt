@@ -24,7 +24,7 @@ IsIndex k = k .0 ≤ 2 ^ 31
 abbrev pub isIndex : CirclePointIndex → Bool
 isIndex k = leb (k .0) (2 ^ 31)
 
--- else number 4
+-- an index in range, else number 4
 abbrev pub inRange : CirclePointIndex → Checks
 inRange k = need (isIndex k) Index
 

@@ -56,7 +56,7 @@ index-reduce k = index-equal (k % 2 ^ 31) k .1 (mod-mod k)
 pub index-add : (j k : ℕ) → indexPoint ((j + k) % 2 ^ 31) ≡ plus words31 (indexPoint j) (indexPoint k)
 index-add j k = index-reduce (j + k) ∙ multiple-add words31 m31 m31-representation j k generator
 
--- doubling an index doubles its point, but for whole turns
+-- doubling an index doubles its point, also where a multiple of 2^31 is taken away
 pub index-double : (j k turns : ℕ) → 2 * j ≡ k + turns * 2 ^ 31 → double words31 (indexPoint j) ≡ indexPoint k
 index-double j k turns e =
     let twice : j + j ≡ k + turns * 2 ^ 31 = omega arith in
@@ -66,7 +66,7 @@ index-double j k turns e =
 pub mod-64-mod-31 : (m : ℕ) → m % 2 ^ 31 ≡ m % 2 ^ 64 % 2 ^ 31
 mod-64-mod-31 m = omega arith
 
--- so the product modulo 2^64 has the point of the product
+-- the product modulo 2^64 has the point of the product
 pub index-mul : (k n : ℕ) → indexPoint ((k * n) % 2 ^ 64 % 2 ^ 31) ≡ multiple words31 n (indexPoint k)
 index-mul k n =
     ap indexPoint (sym (mod-64-mod-31 (k * n))) ∙ index-reduce (k * n) ∙ ap indexPoint (N.mul-comm k n)

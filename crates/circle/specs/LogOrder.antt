@@ -100,7 +100,7 @@ module _ (p : ℕ × ℕ) (h : Words p) (on : OnCircle words31 p) where
       (zero-by-x m31 m31-field (iterate n (double m31) (onPair element p)) (on-doublings m31 m31-laws n (onPair element p) on-field)
       (sym (ap (λ t. t .0) (to-doubled n)) ∙ ap element e))
 
-  -- and x is doubled alone
+  -- on the circle the x of the doubled points needs no y
   pub doubled-x : (n : ℕ) → doubled n p .0 ≡ iterate n (doubleX words31) (p .0)
   doubled-x n =
       m31-representation .injective (doubled n p .0) (iterate n (doubleX words31) (p .0)) (doublings-reduced words31 m31 m31-representation n p h .0)
@@ -111,7 +111,7 @@ module _ (p : ℕ × ℕ) (h : Words p) (on : OnCircle words31 p) where
   zero-test n true e = is-zero-holds (doubled n p) (zero-where-one n (doubled-x n ∙ eqb-true (iterate n (doubleX words31) (p .0)) 1 e))
   zero-test n false e = ap (λ (u : Bool). u && eqb (doubled n p .1) 0) (ap (λ (x : ℕ). eqb x 1) (doubled-x n) ∙ e)
 
-  -- so x alone gives the log order
+  -- on the circle x alone gives the log order
   pub log-order-x : logOrder p ≡ first (isOneAfter (p .0)) 31
   unfolding logOrder
   log-order-x = first-same (λ n. isZero (doubled n p)) (isOneAfter (p .0)) 31 (λ n. zero-test n (isOneAfter (p .0) n) refl)
@@ -120,7 +120,7 @@ module _ (p : ℕ × ℕ) (h : Words p) (on : OnCircle words31 p) where
   unfolding logOrder
   log-order-reaches = is-zero (doubled (logOrder p) p) (first-reaches (λ n. isZero (doubled n p)) 31 (is-zero-holds (doubled 31 p) doubled-31))
 
--- of any point
+-- for any point, on the circle or off it
 pub log-order-least : (p : ℕ × ℕ) (n : ℕ) → n < logOrder p → ¬ (doubled n p ≡ zeroPoint words31)
 unfolding logOrder
 log-order-least p n l e = true≢false (sym (is-zero-holds (doubled n p) e) ∙ first-least (λ m. isZero (doubled m p)) 31 n l)

@@ -23,7 +23,7 @@ module _ (O : Ops) where
   unfoldable pub butterflyDifference : El → El → El → El
   butterflyDifference w u v = sub O u (v ⊗ w)
 
-  -- over the halves of a block
+  -- butterflies with twiddle w over the halves of a block
   unfoldable pub butterflies : ℕ → El → List El → List El
   butterflies half w c = onHalves (butterflySum w) half c ++ onHalves (butterflyDifference w) half c
 

@@ -37,6 +37,6 @@ module _ (O : Ops) where
   abbrev pub value : ℕ → List El → El × El → El
   value n c p = combination n (factor p) c
 
-  -- their values at 2^n points, one for each position
+  -- the values of 2^n coefficients at 2^n points, one for each position
   unfoldable pub values : ℕ → (ℕ → El × El) → List El → List El
   values n point c = listing (2 ^ n) (λ p. value n c (point p))

@@ -82,7 +82,7 @@ made-fits k n h l = record {
 
 -- ---- the conjugate
 
--- an index and its negative make whole turns
+-- an index and its negative add up to a multiple of 2^31
 opposite-sum : (k : ℕ) → IsIndex (ofIndex k) → k + negIndex k ≡ 2 ^ 31 * ((k + negIndex k) / 2 ^ 31)
 opposite-sum k h = omega arith
 

@@ -97,7 +97,7 @@ module _ (n : ℕ) (lo : 1 ≤ n) (hi : n ≤ 29) where
       sym (doubled-x (halfPoint (suc n) k) (index-below (halfIndex (suc n) k)) (index-on (halfIndex (suc n) k)) 1)
       ∙ ap (λ (p : ℕ × ℕ). p .0) (half-double k)
 
-  -- and y to 2xy
+  -- y doubles to 2xy
   pub half-double-y : (k : ℕ) → mulP 2 (mulP (halfPoint (suc n) k .0) (halfPoint (suc n) k .1)) ≡ halfPoint n (k / 2) .1
   half-double-y k =
       solveWords words31 m31 m31-representation (halfPoint (suc n) k .0 ∷ halfPoint (suc n) k .1 ∷ [])

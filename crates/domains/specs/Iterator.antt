@@ -12,11 +12,11 @@ use Rattle.domains.specs.declared.iterator.CircleDomainIndexIterator.{Ci
 use Rattle.domains.specs.declared.iterator.CircleDomainStep.{CircleDomainStep}
 use Rattle.domains.specs.declared.iterator.CircleDomainStep.the-variants as D
 
--- its indices, else number 4, also where none remain
+-- both indices in range, else number 4, also where none remain
 unfoldable pub check : CosetIterator → Checks
 check it = inRange (it .cur) ++ inRange (it .step)
 
--- those of the first, then those of the second
+-- the checks of the first iterator, then those of the second
 unfoldable pub checkBoth : CircleDomainIndexIterator → Checks
 unfolding check
 checkBoth it = check (it .first) ++ check (it .second)

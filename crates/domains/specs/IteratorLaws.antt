@@ -52,12 +52,12 @@ unfolding walkedIndex indexAt
 walked-index c h zero = omega arith
 walked-index c h (suc k) = refl
 
--- of a coset that fits: `coset-walk`
+-- what the iterator of a coset hands back; `coset-walk` proves it for every coset that fits
 pub record CosetWalk (c : Coset) : Type 0 where
   pub index : (k : ℕ) → k < 2 ^ c .«log_size» → nextAnswer (steps k (iteratorOf c)) ≡ Next (ofIndex (walkedIndex c k)) (steps (suc k) (iteratorOf c))
   pub done : (k : ℕ) → 2 ^ c .«log_size» ≤ k → nextAnswer (steps k (iteratorOf c)) ≡ Done (steps (suc k) (iteratorOf c))
 
--- of a domain whose half coset fits: `domain-walk`
+-- what the iterator of a domain hands back; `domain-walk` proves it for every half coset that fits
 pub record DomainWalk (c : Coset) : Type 0 where
   pub first-half : (k : ℕ) → k < 2 ^ c .«log_size»
       → domainNextAnswer (domainSteps k (domainIteratorOf c)) ≡ D.Next (ofIndex (walkedIndex c k)) (domainSteps (suc k) (domainIteratorOf c))

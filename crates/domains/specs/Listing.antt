@@ -13,11 +13,11 @@ unit n = 2 ^ (30 - n)
 abbrev pub cosetIndex : ℕ → ℕ → ℕ
 cosetIndex n k = unit n * (2 * k + 1) % 2 ^ 31
 
--- h + 4hi for i below 2^(n - 1)
+-- the half coset: h + 4hi for i below 2^(n - 1)
 abbrev pub halfIndices : ℕ → List ℕ
 halfIndices n = listing (2 ^ (n - 1)) (λ i. unit n + 4 * unit n * i)
 
--- the canonic circle domain: these, then their negatives in the same order
+-- the canonic circle domain: the half coset's indices, then their negatives in the same order
 unfoldable pub domainIndices : ℕ → List ℕ
 domainIndices n = halfIndices n ++ map negIndex (halfIndices n)
 

@@ -16,11 +16,11 @@ use Rattle.domains.specs.declared.canonic.CanonicCoset.{CanonicCoset}
 abbrev pub logSize : Coset → Checks
 logSize c = need (leb (c .«log_size») 31) LogSize
 
--- else number 4
+-- both indices in range, else number 4
 abbrev pub indices : Coset → Checks
 indices c = inRange (c .«initial_index») ++ inRange (c .«step_size»)
 
--- else number 1
+-- the words of both points below P, else number 1
 abbrev pub words : Coset → Checks
 words c = P.words (c .initial) ++ P.words (c .step)
 
@@ -48,7 +48,7 @@ pub record Fits (c : Coset) : Type 0 where
   pub initialReduced : Reduced (c .initial)
   pub stepReduced : Reduced (c .step)
 
--- a canonic one
+-- what a canonic record has that passes its checks
 pub record FitsCanonic (c : CanonicCoset) : Type 0 where
   pub coset : Fits (c .coset)
   pub least : 1 ≤ c .coset .«log_size»

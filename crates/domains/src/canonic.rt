@@ -66,7 +66,7 @@ impl CanonicCoset {
         CosetAnswer::Value(inner::half_odds(self.coset.log_size - 1))
     }
 
-    // The same points in another order.
+    // The coset's points, in the order of its circle domain.
     pub fn circle_domain(self) -> CircleDomainAnswer
         ensures { λ r. ⌜ r ≡ circleDomainAnswer self ⌝ }
     {

@@ -7,7 +7,7 @@ use Rattle.fields.specs.declared.refusal.Refusal.{Refusal}
 use Rattle.fields.specs.declared.check.Check.{Check}
 use Rattle.fields.specs.declared.check.Check.the-variants.{Passed, Refused}
 
--- the second where the first is passed
+-- what the second says where the first is passed, else what the first says
 abbrev pub inTurn : Check → Check → Check
 inTurn Passed next = next
 inTurn (Refused why) next = Refused why
@@ -33,7 +33,7 @@ abbrev pub Hold : Checks → Type 0
 Hold [] = Unit
 Hold (test ∷ rest) = (test .0 ≡ true) × Hold rest
 
--- of two lists, one after the other
+-- every test of two lists holds exactly where every test of each does
 pub hold-split : (a b : Checks) → Hold (a ++ b) → Hold a × Hold b
 hold-split [] b h = (tt, h)
 hold-split (test ∷ a) b h = let rest = hold-split a b (h .1) in ((h .0, rest .0), rest .1)
@@ -86,12 +86,12 @@ checked-append : {A : Type 0} (a b : Checks) (f : Refusal → A) (x : A) → che
 checked-append [] b f x = refl
 checked-append (test ∷ a) b f x = ap (λ y. cond (test .0) y (f (test .1))) (checked-append a b f x)
 
--- the first refuses
+-- the first list refuses
 pub at-first : {A : Type 0} (a b : Checks) (r : Check) (why : Refusal) (f : Refusal → A) (x : A) → r ≡ outcome a → r ≡ Refused why
     → f why ≡ checked (a ++ b) f x
 at-first a b r why f x e h = at-refused a r why f (checked b f x) e h ∙ sym (checked-append a b f x)
 
--- the first is passed
+-- the first list is passed
 pub past-first : {A : Type 0} (a b : Checks) (r : Check) (f : Refusal → A) (x y : A) → r ≡ outcome a → r ≡ Passed → x ≡ checked b f y
     → x ≡ checked (a ++ b) f y
 past-first a b r f x y e h g = at-passed a r f x (checked b f y) e h g ∙ sym (checked-append a b f y)

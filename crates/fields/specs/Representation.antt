@@ -43,7 +43,7 @@ module _ (W K : Ops) (H : Representation W K) where
   pub unit-nonzero : (a : W .El) → Unit a → ¬ (element a ≡ 𝟘)
   unit-nonzero a u e = u .1 (injective a (W .zero) (u .0) zero-reduced (e ∙ sym to-zero))
 
-  -- the inverse is one
+  -- the inverse of a is one
   pub mul-inverse : (a : W .El) → Unit a → W .mul a (inverse a) ≡ W .one
   mul-inverse a u =
       injective (W .mul a (inverse a)) (W .one) (mul-reduced a (inverse a)) one-reduced
@@ -54,7 +54,7 @@ module _ (W K : Ops) (H : Representation W K) where
       injective b (inverse a) h (inverse-reduced a)
       (F.inv-unique K field (element a) (element b) e ∙ sym (inverse-element a (F.nonzero-of-inverse K field (element a) (element b) e)))
 
-  -- and the only one
+  -- the inverse of a is the only one
   pub inverse-unique : (a b : W .El) → Reduced b → W .mul a b ≡ W .one → b ≡ inverse a
   inverse-unique a b h e = inverse-of-elements a b h (sym (to-mul a b) ∙ ap element e ∙ to-one)
 

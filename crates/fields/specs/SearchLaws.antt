@@ -31,7 +31,7 @@ first-is test (suc n) (suc k) l h e =
 pub first-at : (test : ℕ → Bool) (n k : ℕ) → k < n → None test k → test k ≡ true → k ≡ first test n
 first-at test n k l h e = first-is test n k (omega arith) (h .none) (λ lt. e)
 
--- where it holds nowhere
+-- where the test holds nowhere
 pub first-none : (test : ℕ → Bool) (n k : ℕ) → k ≡ n → None test k → k ≡ first test n
 first-none test n k q h = first-is test n k (omega arith) (h .none) (λ lt. absurd (N.not-le-of-lt lt (omega arith)))
 

@@ -26,7 +26,7 @@ powP a n = (a ^ n) % P
 abbrev pub invP : ℕ → ℕ
 invP a = powP a (P - 2)
 
--- the same as operations without laws
+-- the operations modulo P, without laws
 abbrev pub words31 : Ops
 words31 = record { El = ℕ; zero = 0; one = 1; add = addP; mul = mulP; neg = negP }
 

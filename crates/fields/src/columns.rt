@@ -9,7 +9,7 @@ use crate::m31::P;
 const TWO_POW_31: u32 = 2147483648;
 
 // Whether every word is below P. Just then a word and the word plus 1, modulo 2^32, are below 2^31. It looks at all words
-// without a branch, which takes a quarter of the time of a search.
+// without a branch; only a column that has a bad word is searched for it.
 fn all_below_p(column: &[u32]) -> bool
     ensures { λ r. ⌜ (r ≡ true → length (now (column .entry)) ≡ firstBad (now (column .entry))) ⌝ }
 {

@@ -34,7 +34,7 @@ reversed-odd n p =
     let rest : (2 * p + 1) / 2 ≡ p = omega arith in
     rw (bit, rest) (omega arith)
 
--- the same read from the low end: bit n comes first
+-- the reverse from the low end: bit n comes first
 pub reversed-last : (n i : ℕ) → reverseBits (suc n) i ≡ 2 * reverseBits n i + i / 2 ^ n % 2
 unfolding reverseBits
 reversed-last zero i = omega (arith, ap (λ (t : ℕ). i / t) (N.pow-zero 2) ∙ N.div-one i, N.pow-zero 2, ap (λ (t : ℕ). i % 2 * t) (N.pow-zero 2))

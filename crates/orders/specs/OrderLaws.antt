@@ -184,7 +184,7 @@ pub coset-bits-twice : (n : ℕ) (l : List ℕ) → length l ≡ 2 ^ n → reord
 coset-bits-twice n l e =
     reordered-undone (cosetBitReversed n) (cosetBitReversed n) l (λ i h. rw e (coset-bits-below n i)) (λ i h. coset-bits-back n i (subst (λ (m : ℕ). i < m) e h))
 
--- it is the copying call to domain order and then bit reversal
+-- the in-place call is the copying call to domain order and then bit reversal
 pub coset-bits-composed : (n : ℕ) (l : List ℕ) → length l ≡ 2 ^ suc n → reordered (cosetBitReversed (suc n)) l ≡ reordered (reverseBits (suc n)) (reordered (toCoset (length l)) l)
 unfolding cosetBitReversed
 coset-bits-composed n l e = sym (reordered-twice (reverseBits (suc n)) (toCoset (length l)) (cosetBitReversed (suc n)) l (λ i h. rw e (reversed-below (suc n) i)) to-coset-reversed)

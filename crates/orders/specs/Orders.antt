@@ -32,7 +32,7 @@ bitReverseIndexAnswer i n = checked (need (leb n 64) LogSize) Refused (Value (bi
 unfoldable pub toDomain : ℕ → ℕ → ℕ
 toDomain size k = cond (eqb (k % 2) 0) (k / 2) ((2 * size - k) / 2)
 
--- back: the first half holds the even positions, the second the odd ones from the last down
+-- the order map back: the first half holds the even positions, the second the odd ones from the last down
 unfoldable pub toCoset : ℕ → ℕ → ℕ
 toCoset size i = cond (ltb i (size / 2)) (2 * i) (2 * (size - 1 - i) + 1)
 
@@ -103,7 +103,7 @@ offsetIndex i domain eval back steps =
 abbrev pub isSmallerDomain : ℕ → ℕ → Bool
 isSmallerDomain domain eval = isLogSize eval && ltb domain eval
 
--- such log sizes, else number 6; an offset within 2^31 on either side, else number 11
+-- log sizes that fit, else number 6; an offset within 2^31 on either side, else number 11
 unfoldable pub offsetAnswer : ℕ → ℕ → ℕ → ℤ → U64Answer
 offsetAnswer i domain eval offset =
     checked (need (isSmallerDomain domain eval) LogSize ++ need (leb (partsOf offset .size) (2 ^ 31)) Scalar) Refused

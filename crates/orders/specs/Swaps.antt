@@ -1,4 +1,4 @@
--- What the in-place loops do to a column in one turn.
+-- What one round of the in-place loops does to a column.
 use Prim.Native.Nat.{ℕ, _+_, _-_, _*_}
 use mathlib.Core.Bool.{cond}
 use mathlib.Core.List.{List}
@@ -9,7 +9,7 @@ use lib.ListN.{getD, set}
 abbrev pub swapped : ℕ → ℕ → List ℕ → List ℕ
 swapped i j l = set (set l i (getD l j 0)) j (getD l i 0)
 
--- the same where t comes before u
+-- l with words i and j changed over where t comes before u, else l
 unfoldable pub swappedIfBefore : (t u i j : ℕ) → List ℕ → List ℕ
 swappedIfBefore t u i j l = cond (ltb t u) (swapped i j l) l
 

@@ -55,7 +55,7 @@ unfoldable pub InterpolateExit : WriteAnswer → ℕ → List ℕ → List ℕ �
 InterpolateExit Written n column exit = Coefficients n exit column
 InterpolateExit (Refused why) n column exit = exit ≡ column
 
--- and what a call leaves of scratch: its first 2^n words end as anything
+-- what a call with this answer leaves of scratch: its first 2^n words end as anything
 unfoldable pub ScratchExit : WriteAnswer → ℕ → List ℕ → List ℕ → Type 0
 ScratchExit Written n scratch exit = (length exit ≡ length scratch) × (drop (2 ^ n) exit ≡ drop (2 ^ n) scratch)
 ScratchExit (Refused why) n scratch exit = exit ≡ scratch
@@ -65,7 +65,7 @@ pub record Evaluated (n : ℕ) (column scratch columnExit scratchExit : List ℕ
   pub columnLeft : columnExit ≡ evaluateExit (transformAnswer n column (length scratch)) n column
   pub scratchLeft : ScratchExit (transformAnswer n column (length scratch)) n scratch scratchExit
 
--- and an interpolation
+-- what an interpolation leaves of the column and of scratch
 pub record Interpolated (n : ℕ) (column scratch columnExit scratchExit : List ℕ) : Type 0 where
   pub columnLeft : InterpolateExit (transformAnswer n column (length scratch)) n column columnExit
   pub scratchLeft : ScratchExit (transformAnswer n column (length scratch)) n scratch scratchExit

@@ -21,7 +21,7 @@ Words l = (k : ℕ) → getD l k 0 < P
 abbrev pub PartlyReduced : List ℕ → Type 0
 PartlyReduced l = (k : ℕ) → getD l k 0 ≤ P
 
--- the words that they stand for
+-- the words below P that such words stand for
 abbrev pub reducedWords : List ℕ → List ℕ
 reducedWords l = map (λ (w : ℕ). w % P) l
 
@@ -100,7 +100,7 @@ unfoldable pub pairTwiddle : ℕ → ℕ → ℕ → ℕ → ℕ → ℕ
 pairTwiddle w v u zero i = cond (eqb (i % 2) 0) v u
 pairTwiddle w v u (suc t) i = w
 
--- on eight words, below the nodes that hold x and y
+-- two layers on eight words, below the nodes that hold x and y
 abbrev pub evaluateEight : ℕ → ℕ → List ℕ → List ℕ
 evaluateEight x y block =
     evaluateBlock words31 2 (pairTwiddle x y (negP y)) 0 (take 4 block) ++ evaluateBlock words31 2 (pairTwiddle y (negP x) x) 0 (drop 4 block)

@@ -72,7 +72,7 @@ fn four(block: &mut [u32], w: u32, v: u32)
     block[3] = add(m, n);
 }
 
-// The same with -v and v for the pairs.
+// Two layers on four words: w for the halves, -v and v for the pairs. It leaves words below P.
 fn four_negated(block: &mut [u32], w: u32, v: u32)
     requires { ⌜ (length (now block) ≡ 4) × (w < P) × (v < P) × PartlyReduced (now block) ⌝ }
     ensures { λ _. ⌜ now (block .exit) ≡ evaluateBlock words31 2 (pairTwiddle w (negP v) v) 0 (reducedWords (now (block .entry))) ⌝ }

@@ -39,7 +39,8 @@ fn inverse_butterflies(block: &mut [u32], half: usize, t: u32)
     }
 }
 
-// The same where P may stand for 0, before and after it.
+// An inverse butterfly with the inverse t of the twiddle on each pair of words, half a block apart; not halved. P may stand
+// for 0, before and after it.
 fn inverse_butterflies_partly(block: &mut [u32], half: usize, t: u32)
     requires { ⌜ (length (now block) ≡ half + half) × (t < P) × PartlyReduced (now block) ⌝ }
     ensures { λ _. ⌜ (reducedWords (now (block .exit)) ≡ inverseButterflies words31 half t (reducedWords (now (block .entry)))) × PartlyReduced (now (block .exit)) ⌝ }
@@ -89,7 +90,7 @@ fn four(block: &mut [u32], w: u32, v: u32)
     block[3] = mul_partly(sub_partly(q, n), w);
 }
 
-// The same with -v and v for the pairs.
+// Two layers on four words: -v and v for the pairs, w for the halves.
 fn four_negated(block: &mut [u32], w: u32, v: u32)
     requires { ⌜ (length (now block) ≡ 4) × (w < P) × (v < P) × PartlyReduced (now block) ⌝ }
     ensures { λ _. ⌜ (reducedWords (now (block .exit)) ≡ interpolateBlock words31 2 (pairTwiddle w (negP v) v) 0 (reducedWords (now (block .entry)))) × PartlyReduced (now (block .exit)) ⌝ }
@@ -150,7 +151,7 @@ fn layers(column: &mut [u32], tree: &[u32], i: usize, k: u32)
     }
 }
 
-// a 2^s modulo P: since 2^31 is 1, its 31 bits turned by s places. P, which stands for 0, stays P and is reduced.
+// a 2^s modulo P: since 2^31 is 1, its 31 bits rotated by s places. P, which stands for 0, stays P and is reduced.
 fn rotated(a: u32, s: u32) -> u32
     requires { ⌜ (a ≤ P) × (0 < s) × (s < 31) ⌝ }
     ensures { λ r. ⌜ r ≡ mulP a (2 ^ s) ⌝ }

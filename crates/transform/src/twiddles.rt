@@ -1,5 +1,5 @@
 // The tree of twiddles in scratch: node 1 is its root, node i has the children 2i and 2i + 1. It has the twiddles of all
-// layers but the last, whose twiddles are those of the layer before it, turned.
+// layers but the last, whose twiddles are y, -y, -x and x for the siblings x and y of the layer before it.
 ghost use mathlib.Core.Path.{_≡_};
 ghost use Prim.Native.Nat.{ℕ, _+_, _*_, _-_, _^_, _≤_, _<_};
 ghost use lib.ListN.{length, getD};

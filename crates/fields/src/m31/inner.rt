@@ -116,7 +116,8 @@ pub fn mul_by(a: u32, w: u32) -> u32
     partial_reduce(halves_by(a, w))
 }
 
-// The same for a sum and a difference, which reduce it: P may stand for 0, as it may in a.
+// The product with a factor w that stays the same through a loop, for a sum and a difference, which reduce it: P may stand
+// for 0, as it may in a.
 pub fn mul_by_partly(a: u32, w: u32) -> u32
     requires { ⌜ (a ≤ P) × (w < P) ⌝ }
     ensures { λ r. ⌜ (r % P ≡ mulP a w) × (r ≤ P) ⌝ }
@@ -124,7 +125,8 @@ pub fn mul_by_partly(a: u32, w: u32) -> u32
     reduce_partly(halves_by(a, w))
 }
 
-// The same where both factors change.
+// The product of two factors that change in a loop, for a sum and a difference, which reduce it: P may stand for 0, as it
+// may in a.
 pub fn mul_partly(a: u32, b: u32) -> u32
     requires { ⌜ (a ≤ P) × (b < P) ⌝ }
     ensures { λ r. ⌜ (r % P ≡ mulP a b) × (r ≤ P) ⌝ }

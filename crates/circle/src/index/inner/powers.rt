@@ -1,5 +1,5 @@
-// The points of the indices 2^0 to 2^30, as constants: the transform starts and steps from them, and a look-up in the table
-// of all indices takes longer.
+// The points of the indices 2^0 to 2^30, as constants: the transform starts and steps from them, without the sums of digits'
+// points that a look-up in the table of all indices takes.
 ghost use mathlib.Core.Path.{_≡_};
 ghost use Prim.Native.Nat.{_^_, _≤_};
 ghost use Rattle.circle.specs.Point.{pointOf, Reduced};
