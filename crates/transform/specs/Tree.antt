@@ -9,6 +9,7 @@ use Rattle.algebra.specs.M31.{P}
 use Rattle.algebra.specs.Circle.{plus, doubleX}
 use Rattle.fields.specs.Words.{mulP, negP, words31}
 use Rattle.circle.specs.Index.{indexPoint}
+use Rattle.circle.specs.TableRule.{pointAt}
 use Rattle.domains.specs.BitReversed.{halfPoint}
 use Rattle.column.specs.Butterflies.{evaluateBlock, interpolateBlock, scaled}
 use Rattle.transform.specs.Transform.{Coefficients}
@@ -70,11 +71,7 @@ pub record Inverted (tree exit : List ℕ) : Type 0 where
 
 -- ---- filling
 
--- point c of a level: x at word 2c, y at word 2c + 1
-abbrev pub pointAt : List ℕ → ℕ → ℕ × ℕ
-pointAt level c = (getD level (2 * c) 0, getD level (2 * c + 1) 0)
-
--- the first points of a level: every fourth of the half coset of log size n
+-- the first points of a level, x at word 2c and y at word 2c + 1 for point c: every fourth of the half coset of log size n
 pub record Points (n count : ℕ) (level : List ℕ) : Type 0 where
   pub each : (c : ℕ) → c < count → pointAt level c ≡ halfPoint n (4 * c)
 
