@@ -73,7 +73,8 @@ module _ (O : Ops) (L : Laws O) where
       ∙ solve O L (x ∷ f (suc q) ∷ pow O x q ∷ []) (Expr.:0 :+ v0 :* (v1 :* v2)) (v1 :* (v0 :* v2)) tt
 
   -- for any map of the numbers into the ring that keeps sums, 0 and 1
-  module _ (embed : ℕ → El) (embed-zero : embed 0 ≡ 𝟘) (embed-one : embed 1 ≡ 𝟙) (embed-add : (a b : ℕ) → embed (a + b) ≡ embed a ⊕ embed b) where
+  module _ (embed : ℕ → El) (embed-zero : embed 0 ≡ 𝟘) (embed-one : embed 1 ≡ 𝟙)
+      (embed-add : (a b : ℕ) → embed (a + b) ≡ embed a ⊕ embed b) where
     pub binomial : (n j : ℕ) (x : El) → n < j → series O j (λ k. embed (choose n k)) x ≡ pow O (𝟙 ⊕ x) n
     unfolding series pow choose
     binomial zero zero x h = absurd (N.not-suc-le-zero h)

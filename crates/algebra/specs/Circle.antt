@@ -49,7 +49,8 @@ module _ (O : Ops) (L : Laws O) where
 
   -- the sum is the product of O[i], so a multiple is a power there
   pub plus-mul : (p q : O .El × O .El) → plus O p q ≡ complex O .mul p q
-  plus-mul p q = solvePair O L (p .0 ∷ p .1 ∷ q .0 ∷ q .1 ∷ []) (plus exprs (v0, v1) (v2, v3)) (complex exprs .mul (v0, v1) (v2, v3)) (tt, tt)
+  plus-mul p q =
+      solvePair O L (p .0 ∷ p .1 ∷ q .0 ∷ q .1 ∷ []) (plus exprs (v0, v1) (v2, v3)) (complex exprs .mul (v0, v1) (v2, v3)) (tt, tt)
 
   pub multiple-pow : (k : ℕ) (p : O .El × O .El) → multiple O k p ≡ pow (complex O) p k
   unfolding multiple pow
@@ -63,7 +64,8 @@ module _ (O : Ops) (L : Laws O) where
 
   pub multiple-mul : (m n : ℕ) (p : O .El × O .El) → multiple O (m * n) p ≡ multiple O m (multiple O n p)
   multiple-mul m n p =
-      multiple-pow (m * n) p ∙ pow-mul (complex O) (complex-laws O L) p m n ∙ sym (multiple-pow m (multiple O n p) ∙ ap (λ t. pow (complex O) t m) (multiple-pow n p))
+      multiple-pow (m * n) p ∙ pow-mul (complex O) (complex-laws O L) p m n
+      ∙ sym (multiple-pow m (multiple O n p) ∙ ap (λ t. pow (complex O) t m) (multiple-pow n p))
 
   pub multiple-one : (p : O .El × O .El) → multiple O 1 p ≡ p
   unfolding multiple
@@ -74,11 +76,13 @@ module _ (O : Ops) (L : Laws O) where
   multiple-two p = ap (plus O p) (plus-zero p)
 
   -- one step of double-and-add: the lowest bit of the count is used, and the point doubled
-  pub double-and-add : (a p : O .El × O .El) (n : ℕ) → plus O (plus O a (multiple O (n % 2) p)) (multiple O (n / 2) (plus O p p)) ≡ plus O a (multiple O n p)
+  pub double-and-add : (a p : O .El × O .El) (n : ℕ)
+      → plus O (plus O a (multiple O (n % 2) p)) (multiple O (n / 2) (plus O p p)) ≡ plus O a (multiple O n p)
   double-and-add a p n =
       plus-assoc a (multiple O (n % 2) p) (multiple O (n / 2) (plus O p p))
       ∙ ap (plus O a) (ap (λ t. plus O (multiple O (n % 2) p) (multiple O (n / 2) t)) (sym (multiple-two p))
-      ∙ ap (plus O (multiple O (n % 2) p)) (sym (multiple-mul (n / 2) 2 p)) ∙ sym (multiple-add (n % 2) (n / 2 * 2) p) ∙ ap (λ t. multiple O t p) div-mod-2)
+      ∙ ap (plus O (multiple O (n % 2) p)) (sym (multiple-mul (n / 2) 2 p)) ∙ sym (multiple-add (n % 2) (n / 2 * 2) p)
+      ∙ ap (λ t. multiple O t p) div-mod-2)
     where
       div-mod-2 : n % 2 + n / 2 * 2 ≡ n
       div-mod-2 = omega arith
@@ -96,7 +100,8 @@ module _ (O : Ops) (L : Laws O) where
 
   pub on-plus : (p q : O .El × O .El) → OnCircle O p → OnCircle O q → OnCircle O (plus O p q)
   on-plus p q h k =
-      solve O L (p .0 ∷ p .1 ∷ q .0 ∷ q .1 ∷ []) (squares exprs (plus exprs (v0, v1) (v2, v3))) (squares exprs (v0, v1) :* squares exprs (v2, v3)) tt
+      solve O L (p .0 ∷ p .1 ∷ q .0 ∷ q .1 ∷ []) (squares exprs (plus exprs (v0, v1) (v2, v3)))
+      (squares exprs (v0, v1) :* squares exprs (v2, v3)) tt
       ∙ ap₂ (O .mul) h k ∙ L .mul-one (O .one)
 
   pub on-multiple : (k : ℕ) (p : O .El × O .El) → OnCircle O p → OnCircle O (multiple O k p)

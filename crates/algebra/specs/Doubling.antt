@@ -10,7 +10,8 @@ use Rattle.algebra.specs.ZMod.{Z}
 use Rattle.algebra.specs.Field.{Field}
 use Rattle.algebra.specs.Field as F
 use Rattle.algebra.specs.M31.{P, m31, m31-laws}
-use Rattle.algebra.specs.Circle.{plus, zeroPoint, multiple, squares, OnCircle, doubleX, multiple-one, multiple-two, multiple-mul, on-plus, plus-self-x}
+use Rattle.algebra.specs.Circle.{plus, zeroPoint, multiple, squares, OnCircle, doubleX}
+use Rattle.algebra.specs.Circle.{multiple-one, multiple-two, multiple-mul, on-plus, plus-self-x}
 use Rattle.algebra.specs.Frobenius.{circle-order}
 
 -- f applied n times

@@ -35,7 +35,8 @@ module _ (O : Ops) (F : Field O) (r : O .El) (nonsquare : (x : O .El) → ¬ (O 
       first-zero =
           square-zero O F (p .0)
           (solveFrom O L (p .0 ∷ p .1 ∷ r ∷ [])
-          (given Expr.:1 (norm exprs v2 (v0, v1)) Expr.:0 ∷ given (v2 :* v1) v1 Expr.:0 ∷ []) (h, (second-zero p h, tt)) (v0 :* v0) Expr.:0 tt)
+          (given Expr.:1 (norm exprs v2 (v0, v1)) Expr.:0 ∷ given (v2 :* v1) v1 Expr.:0 ∷ []) (h, (second-zero p h, tt))
+          (v0 :* v0) Expr.:0 tt)
 
   pub ext-mul-inv : (p : El × El) → ¬ (p ≡ (𝟘, 𝟘)) → ext O r .mul p (extInverse O r inv p) ≡ (𝟙, 𝟘)
   ext-mul-inv p np = λ i. (first-is-one i, second-is-zero i)

@@ -55,10 +55,12 @@ module _ (q : ℕ) (pos : zero < suc q) (large : 0 < q) (prime : Prime (suc q)) 
     class-pow zero y = imaginary-pow y
     class-pow (suc x) y =
         ap (λ t. pow X t (suc q)) (more x)
-        ∙ one-add-pow q pos large prime X XL (λ a. (a, class 0)) refl refl (λ a b. λ i. (O .add a b, sym (L .add-zero (class 0)) i)) (class x, y)
+        ∙ one-add-pow q pos large prime X XL (λ a. (a, class 0)) refl refl
+        (λ a b. λ i. (O .add a b, sym (L .add-zero (class 0)) i)) (class x, y)
         ∙ ap (X .add (X .one)) (class-pow x y)
         ∙ solvePair O L (class x ∷ y ∷ [])
-        (complex exprs .add (complex exprs .one) (conjugate exprs (v0, v1))) (conjugate exprs (complex exprs .add (complex exprs .one) (v0, v1))) (tt, tt)
+        (complex exprs .add (complex exprs .one) (conjugate exprs (v0, v1)))
+        (conjugate exprs (complex exprs .add (complex exprs .one) (v0, v1))) (tt, tt)
         ∙ ap (conjugate O) (sym (more x))
       where
         one-more : (x : ℕ) → class (suc x) ≡ O .add (O .one) (class x)

@@ -15,7 +15,8 @@ use Rattle.algebra.specs.ZMod.{Z, residue, zadd, zmul, zneg, residue-inj
 use Rattle.algebra.specs.M31.{P, P-pos, m31, m31-laws, element}
 use Rattle.algebra.specs.Extension.{conjugate}
 use Rattle.algebra.specs.Tower.{complex, cm31, complex-laws}
-use Rattle.algebra.specs.Circle.{zeroPoint, multiple, OnCircle, plus, plus-assoc, plus-comm, plus-zero, multiple-pow, multiple-add, multiple-mul, multiple-zeroPoint, on-multiple, plus-conjugate}
+use Rattle.algebra.specs.Circle.{zeroPoint, multiple, OnCircle, plus, plus-assoc, plus-comm, plus-zero, multiple-pow}
+use Rattle.algebra.specs.Circle.{multiple-add, multiple-mul, multiple-zeroPoint, on-multiple, plus-conjugate}
 use Rattle.algebra.specs.Frobenius.{circle-order}
 
 abbrev pub G : Z P × Z P
@@ -50,7 +51,8 @@ pub G-antipode : (k : ℕ) → multiple m31 (k + 2 ^ 30) G ≡ cm31 .neg (multip
 G-antipode k = multiple-add m31 m31-laws k (2 ^ 30) G ∙ ap (plus m31 (multiple m31 k G)) G-half ∙ plus-half (multiple m31 k G)
   where
     plus-half : (p : Z P × Z P) → plus m31 p (m31 .neg (m31 .one), m31 .zero) ≡ cm31 .neg p
-    plus-half p = solvePair m31 m31-laws (p .0 ∷ p .1 ∷ []) (plus exprs (v0, v1) (:- Expr.:1, Expr.:0)) (complex exprs .neg (v0, v1)) (tt, tt)
+    plus-half p =
+        solvePair m31 m31-laws (p .0 ∷ p .1 ∷ []) (plus exprs (v0, v1) (:- Expr.:1, Expr.:0)) (complex exprs .neg (v0, v1)) (tt, tt)
 
 G-whole : multiple m31 (2 ^ 31) G ≡ zeroPoint m31
 G-whole = circle-order G G-on
@@ -60,7 +62,8 @@ pub G-conjugate : (k : ℕ) → k ≤ 2 ^ 31 → multiple m31 (2 ^ 31 - k) G ≡
 G-conjugate k h =
     sym (plus-zero m31 m31-laws b) ∙ ap (plus m31 b) (sym (plus-conjugate m31 m31-laws a (on-multiple m31 m31-laws k G G-on)))
     ∙ sym (plus-assoc m31 m31-laws b a (conjugate m31 a))
-    ∙ ap (λ t. plus m31 t (conjugate m31 a)) (sym (multiple-add m31 m31-laws (2 ^ 31 - k) k G) ∙ ap (λ (t : ℕ). multiple m31 t G) (N.sub-add-cancel h) ∙ G-whole)
+    ∙ ap (λ t. plus m31 t (conjugate m31 a))
+    (sym (multiple-add m31 m31-laws (2 ^ 31 - k) k G) ∙ ap (λ (t : ℕ). multiple m31 t G) (N.sub-add-cancel h) ∙ G-whole)
     ∙ plus-comm m31 m31-laws (zeroPoint m31) (conjugate m31 a) ∙ plus-zero m31 m31-laws (conjugate m31 a)
   where
     a : Z P × Z P
@@ -71,13 +74,17 @@ G-conjugate k h =
 
 half-nonzero : ¬ (multiple m31 (2 ^ 30) G ≡ zeroPoint m31)
 unfolding residue zneg
-half-nonzero e = let w : _≡_ {A = ℕ} 2147483646 1 = residue-injective P P-pos 2147483646 1 (lit< tt) (lit< tt) (ap (λ t. t .0) (sym G-half ∙ e)) in omega arith
+half-nonzero e =
+    let w : _≡_ {A = ℕ} 2147483646 1 =
+    residue-injective P P-pos 2147483646 1 (lit< tt) (lit< tt) (ap (λ t. t .0) (sym G-half ∙ e)) in
+    omega arith
 
 -- a multiple of 2^31 G adds nothing
 multiple-shift : (k n : ℕ) → multiple m31 (k + n * 2 ^ 31) G ≡ multiple m31 k G
 multiple-shift k n =
     multiple-add m31 m31-laws k (n * 2 ^ 31) G
-    ∙ ap (plus m31 (multiple m31 k G)) (multiple-mul m31 m31-laws n (2 ^ 31) G ∙ ap (multiple m31 n) G-whole ∙ multiple-zeroPoint m31 m31-laws n)
+    ∙ ap (plus m31 (multiple m31 k G))
+    (multiple-mul m31 m31-laws n (2 ^ 31) G ∙ ap (multiple m31 n) G-whole ∙ multiple-zeroPoint m31 m31-laws n)
     ∙ plus-zero m31 m31-laws (multiple m31 k G)
 
 -- if d = 2^k m with m odd and k below 31, then 2^(30 - k) d G = 2^30 G is not zero

@@ -64,7 +64,9 @@ module _ (A B : Ops) (f : A .El → B .El) (H : Homomorphism A B f) where
     }
       where
         to-mul-first : (x y : A .El × A .El) → f (ext A r .mul x y .0) ≡ ext B s .mul (onPair f x) (onPair f y) .0
-        to-mul-first x y = to-add (A .mul (x .0) (y .0)) (A .mul r (A .mul (x .1) (y .1))) ∙ ap₂ (B .add) (to-mul (x .0) (y .0)) (to-root-mul (x .1) (y .1))
+        to-mul-first x y = to-add (A .mul (x .0) (y .0)) (A .mul r (A .mul (x .1) (y .1)))
+            ∙ ap₂ (B .add) (to-mul (x .0) (y .0)) (to-root-mul (x .1) (y .1))
 
         to-mul-second : (x y : A .El × A .El) → f (ext A r .mul x y .1) ≡ ext B s .mul (onPair f x) (onPair f y) .1
-        to-mul-second x y = to-add (A .mul (x .0) (y .1)) (A .mul (x .1) (y .0)) ∙ ap₂ (B .add) (to-mul (x .0) (y .1)) (to-mul (x .1) (y .0))
+        to-mul-second x y =
+            to-add (A .mul (x .0) (y .1)) (A .mul (x .1) (y .0)) ∙ ap₂ (B .add) (to-mul (x .0) (y .1)) (to-mul (x .1) (y .0))

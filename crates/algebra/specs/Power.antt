@@ -80,7 +80,8 @@ module _ (O : Ops) (L : Laws O) where
       go (n % 2) refl (N.mod-lt n {m = 2} (omega arith)) (powBySquaring-ok bits (x ⊗ x) (n / 2) (omega arith) ∙ pow-square x (n / 2))
     where
       go : (r : ℕ) → n % 2 ≡ r → r < 2 → powBySquaring O bits (x ⊗ x) (n / 2) ≡ pow O x (n / 2 * 2)
-          → _≡_ {A = El} (elim r [ zero ↦ powBySquaring O bits (x ⊗ x) (n / 2) | suc r ↦ x ⊗ powBySquaring O bits (x ⊗ x) (n / 2) ]) (pow O x n)
+          → _≡_ {A = El}
+          (elim r [ zero ↦ powBySquaring O bits (x ⊗ x) (n / 2) | suc r ↦ x ⊗ powBySquaring O bits (x ⊗ x) (n / 2) ]) (pow O x n)
       go zero e l ih = let w : n / 2 * 2 ≡ n = omega arith in ih ∙ ap (pow O x) w
       go (suc r) e l ih = ap (_⊗_ x) ih ∙ ap (pow O x) (odd-div-mod-2 e l)
         where

@@ -11,7 +11,8 @@ use Rattle.algebra.specs.Polynomial.{Expr, _:+_, _:*_, :-_, given, v0, v
 use Rattle.algebra.specs.Solver.{solveFrom}
 use Rattle.algebra.specs.Power.{pow}
 use Rattle.algebra.specs.Binomial.{choose, choose-absorb, choose-all, series, series-last, binomial}
-use Rattle.algebra.specs.ZMod.{Z, Z-discrete, val-below, residue, zmod, zmod-laws, residue-add, residue-mul, residue-self, residue-val, residue-injective}
+use Rattle.algebra.specs.ZMod.{Z, Z-discrete, val-below, residue, zmod, zmod-laws, residue-add}
+use Rattle.algebra.specs.ZMod.{residue-mul, residue-self, residue-val, residue-injective}
 use Rattle.algebra.specs.Field.{Field}
 use Rattle.algebra.specs.Field as F
 use Rattle.algebra.specs.Prime.{Prime}
@@ -64,7 +65,8 @@ module _ (q : ℕ) (pos : zero < suc q) (large : 0 < q) (prime : Prime (suc q)) 
   inverse-of : (a : Z (suc q)) → Dec (a ≡ class 0) → (b : Z (suc q)) × (¬ (a ≡ class 0) → O .mul a b ≡ O .one)
   inverse-of a (yes z) = (class 0, λ n. absurd (n z))
   inverse-of a (no n) =
-      let r : (b : Z (suc q)) × (O .mul (class (a .val)) b ≡ O .one) = inverse (a .val) (a .val) (omega arith) (nonzero-pos a n) (val-below a) in
+      let r : (b : Z (suc q)) × (O .mul (class (a .val)) b ≡ O .one) =
+      inverse (a .val) (a .val) (omega arith) (nonzero-pos a n) (val-below a) in
       (r .0, λ _. ap (λ t. O .mul t (r .0)) (sym (residue-val (suc q) pos a)) ∙ r .1)
 
   class-nonzero : (a : ℕ) → 0 < a → a < suc q → ¬ (class a ≡ class 0)
@@ -83,16 +85,19 @@ module _ (q : ℕ) (pos : zero < suc q) (large : 0 < q) (prime : Prime (suc q)) 
   pub choose-vanishes : (k : ℕ) → suc k < suc q → class (choose (suc q) (suc k)) ≡ class 0
   choose-vanishes k l =
       F.zero-factor O zmod-field (class (suc k)) (class (choose (suc q) (suc k))) (class-nonzero (suc k) (omega arith) l)
-      (sym (residue-mul (suc q) pos (suc k) (choose (suc q) (suc k))) ∙ ap class (choose-absorb q k) ∙ residue-mul (suc q) pos (suc q) (choose q k)
+      (sym (residue-mul (suc q) pos (suc k) (choose (suc q) (suc k))) ∙ ap class (choose-absorb q k)
+      ∙ residue-mul (suc q) pos (suc q) (choose q k)
       ∙ ap (λ t. O .mul t (class (choose q k))) (residue-self (suc q) pos) ∙ R.zero-mul O L (class (choose q k)))
 
   -- (1 + x)^p = 1 + x^p, in any ring that the numbers modulo p map into
-  module _ (X : Ops) (XL : Laws X) (embed : Z (suc q) → X .El) (embed-zero : embed (class 0) ≡ X .zero) (embed-one : embed (class 1) ≡ X .one)
+  module _ (X : Ops) (XL : Laws X) (embed : Z (suc q) → X .El) (embed-zero : embed (class 0) ≡ X .zero)
+      (embed-one : embed (class 1) ≡ X .one)
       (embed-add : (a b : Z (suc q)) → embed (O .add a b) ≡ X .add (embed a) (embed b)) where
     pub one-add-pow : (x : X .El) → pow X (X .add (X .one) x) (suc q) ≡ X .add (X .one) (pow X x (suc q))
     unfolding series choose pow
     one-add-pow x =
-        sym (binomial X XL (λ n. embed (class n)) embed-zero embed-one (λ a b. ap embed (residue-add (suc q) pos a b) ∙ embed-add (class a) (class b))
+        sym (binomial X XL (λ n. embed (class n)) embed-zero embed-one
+        (λ a b. ap embed (residue-add (suc q) pos a b) ∙ embed-add (class a) (class b))
         (suc q) (suc (suc q)) x (omega arith))
         ∙ ap₂ (λ s t. X .add s (X .mul x t)) embed-one
         (series-last X XL q (λ k. embed (class (choose (suc q) (suc k)))) x (λ k l. ap embed (choose-vanishes k (omega arith)) ∙ embed-zero)
@@ -103,7 +108,8 @@ module _ (q : ℕ) (pos : zero < suc q) (large : 0 < q) (prime : Prime (suc q)) 
   unfolding pow
   fermat-class zero = R.zero-mul O L (pow O (class 0) q)
   fermat-class (suc n) =
-      ap (λ t. pow O t (suc q)) (more n) ∙ one-add-pow O L (λ a. a) refl refl (λ a b. refl) (class n) ∙ ap (O .add (O .one)) (fermat-class n) ∙ sym (more n)
+      ap (λ t. pow O t (suc q)) (more n) ∙ one-add-pow O L (λ a. a) refl refl (λ a b. refl) (class n)
+      ∙ ap (O .add (O .one)) (fermat-class n) ∙ sym (more n)
     where
       more : (n : ℕ) → class (suc n) ≡ O .add (O .one) (class n)
       more n = ap class (omega arith) ∙ residue-add (suc q) pos 1 n

@@ -7,7 +7,8 @@ use native.Mathlib.Nat as N
 use lib.Dec.{T, isEq, eqb, eqb→eq}
 use Rattle.algebra.specs.Ring.{Ops, Laws}
 use Rattle.algebra.specs.Ring as R
-use Rattle.algebra.specs.Polynomial.{Expr, _:+_, _:*_, :-_, Poly, nil, term, compareVars, placeVar, insertVar, mulVars, placeTerm, insertTerm, addPoly, mulTerm, mulPoly, negPoly, normal, isZero, equal, Given, given, combined}
+use Rattle.algebra.specs.Polynomial.{Expr, _:+_, _:*_, :-_, Poly, nil, term, compareVars, placeVar, insertVar, mulVars, placeTerm}
+use Rattle.algebra.specs.Polynomial.{insertTerm, addPoly, mulTerm, mulPoly, negPoly, normal, isZero, equal, Given, given, combined}
 
 -- what an expression, a monomial and a sum of monomials stand for
 module _ (O : Ops) where

@@ -45,7 +45,8 @@ unfolding residue zneg
 minus-one-nonone = elements-differ 2147483646 1 (lit< tt) (lit< tt) (λ e. omega (arith, e))
 
 -- Euler's criterion: c is no square where c^((P - 1) / 2) = -1
-nonsquare-by-euler : (c : Z P) → ¬ (c ≡ m31 .zero) → powBySquaring m31 30 c 1073741823 ≡ m31 .neg (m31 .one) → (x : Z P) → ¬ (m31 .mul x x ≡ c)
+nonsquare-by-euler : (c : Z P) → ¬ (c ≡ m31 .zero) → powBySquaring m31 30 c 1073741823 ≡ m31 .neg (m31 .one) → (x : Z P)
+    → ¬ (m31 .mul x x ≡ c)
 nonsquare-by-euler c nonzero h x e =
     minus-one-nonone
     (sym h ∙ powBySquaring-ok m31 m31-laws 30 c 1073741823 (lit< tt) ∙ ap (λ t. pow m31 t 1073741823) (sym e)

@@ -59,14 +59,22 @@ module _ (m : ℕ) (pos : zero < m) where
   pub zmod-laws : Laws zmod
   unfolding residue zadd zmul zneg
   zmod-laws = record {
-    add-assoc = λ a b c. Z-path _ _ (N.mod-add-mod (a .val + b .val) m (c .val) ∙ ap (λ t. t % m) (N.add-assoc (a .val) (b .val) (c .val)) ∙ sym (N.add-mod-mod (a .val) (b .val + c .val) m));
+    add-assoc = λ a b c. Z-path _ _
+        (N.mod-add-mod (a .val + b .val) m (c .val) ∙ ap (λ t. t % m) (N.add-assoc (a .val) (b .val) (c .val))
+        ∙ sym (N.add-mod-mod (a .val) (b .val + c .val) m));
     add-comm = λ a b. ap residue (N.add-comm (a .val) (b .val));
     add-zero = λ a. Z-path _ _ (N.add-mod-mod (a .val) 0 m ∙ ap (λ t. t % m) (N.add-zero (a .val)) ∙ N.mod-eq-of-lt (val-below a));
-    add-neg = λ a. let h : a .val < m = val-below a in Z-path _ _ (N.add-mod-mod (a .val) (m - a .val) m ∙ ap (λ t. t % m) (omega arith) ∙ N.mod-self m ∙ sym (N.zero-mod m));
-    mul-assoc = λ a b c. Z-path _ _ (mod-mul-mod (a .val * b .val) (c .val) m ∙ ap (λ t. t % m) (N.mul-assoc (a .val) (b .val) (c .val)) ∙ sym (mul-mod-mod (a .val) (b .val * c .val) m));
+    add-neg = λ a.
+        let h : a .val < m = val-below a in
+        Z-path _ _ (N.add-mod-mod (a .val) (m - a .val) m ∙ ap (λ t. t % m) (omega arith) ∙ N.mod-self m ∙ sym (N.zero-mod m));
+    mul-assoc = λ a b c. Z-path _ _
+        (mod-mul-mod (a .val * b .val) (c .val) m ∙ ap (λ t. t % m) (N.mul-assoc (a .val) (b .val) (c .val))
+        ∙ sym (mul-mod-mod (a .val) (b .val * c .val) m));
     mul-comm = λ a b. ap residue (N.mul-comm (a .val) (b .val));
     mul-one = λ a. Z-path _ _ (mul-mod-mod (a .val) 1 m ∙ ap (λ t. t % m) (N.mul-one (a .val)) ∙ N.mod-eq-of-lt (val-below a));
-    mul-add = λ a b c. Z-path _ _ (mul-mod-mod (a .val) (b .val + c .val) m ∙ ap (λ t. t % m) (N.mul-add (a .val) (b .val) (c .val)) ∙ N.add-mod (a .val * b .val) (a .val * c .val) m);
+    mul-add = λ a b c. Z-path _ _
+        (mul-mod-mod (a .val) (b .val + c .val) m ∙ ap (λ t. t % m) (N.mul-add (a .val) (b .val) (c .val))
+        ∙ N.add-mod (a .val * b .val) (a .val * c .val) m);
   }
 
   -- the class map keeps the operations

@@ -13,7 +13,8 @@ use Rattle.algebra.specs.ZMod.{Z}
 use Rattle.algebra.specs.Field.{square-equal}
 use Rattle.algebra.specs.M31.{P, m31, m31-laws, m31-field}
 use Rattle.algebra.specs.Tower.{cm31, cm31-field}
-use Rattle.algebra.specs.Circle.{multiple, squares, OnCircle, doubleX, plus-mul, multiple-two, multiple-mul, on-plus, on-multiple, plus-self-x}
+use Rattle.algebra.specs.Circle.{multiple, squares, OnCircle, doubleX, plus-mul, multiple-two}
+use Rattle.algebra.specs.Circle.{multiple-mul, on-plus, on-multiple, plus-self-x}
 use Rattle.algebra.specs.Generator.{G, G-on, G-quarter, G-antipode}
 use Rattle.algebra.specs.Doubling.{iterate, double, doublings-multiple, doublings-x}
 
@@ -34,7 +35,8 @@ x-zero-is-odd-multiple z on e = pick (square-equal m31 m31-field (z .1) (m31 .on
         (given Expr.:1 (squares exprs (v0, v1)) Expr.:1 ∷ given (:- v0) v0 Expr.:0 ∷ []) (on, (e, tt)) (v1 :* v1) (Expr.:1 :* Expr.:1) tt
 
     three-quarters : multiple m31 (2 ^ 29 + 2 ^ 30) G ≡ (m31 .zero, m31 .one)
-    three-quarters = G-antipode (2 ^ 29) ∙ ap (cm31 .neg) G-quarter ∙ (λ i. (R.neg-zero m31 m31-laws i, R.neg-neg m31 m31-laws (m31 .one) i))
+    three-quarters =
+        G-antipode (2 ^ 29) ∙ ap (cm31 .neg) G-quarter ∙ (λ i. (R.neg-zero m31 m31-laws i, R.neg-neg m31 m31-laws (m31 .one) i))
 
     pick : (z .1 ≡ m31 .one) ⊎ (z .1 ≡ m31 .neg (m31 .one)) → OddMultiple 0 z
     pick (inl f) = (1, (λ i. (e i, f i)) ∙ sym three-quarters)
@@ -43,7 +45,8 @@ x-zero-is-odd-multiple z on e = pick (square-equal m31 m31-field (z .1) (m31 .on
 -- the double is 2k G only of k G and of its antipode (k + 2^30) G
 odd-multiple-halved : (m : ℕ) → suc m ≤ 29 → (z : Z P × Z P) → OddMultiple m (double m31 z) → OddMultiple (suc m) z
 odd-multiple-halved m h z (j, e) =
-    pick (square-equal cm31 cm31-field z p (sym (plus-mul m31 m31-laws z z) ∙ e ∙ ap (λ (t : ℕ). multiple m31 t G) count-doubled ∙ multiple-mul m31 m31-laws 2 k G
+    pick (square-equal cm31 cm31-field z p
+    (sym (plus-mul m31 m31-laws z z) ∙ e ∙ ap (λ (t : ℕ). multiple m31 t G) count-doubled ∙ multiple-mul m31 m31-laws 2 k G
     ∙ multiple-two m31 m31-laws p ∙ plus-mul m31 m31-laws p p))
   where
     k : ℕ
@@ -68,13 +71,16 @@ zero-is-odd-multiple : (m : ℕ) → m ≤ 29 → (z : Z P × Z P) → OnCircle 
 unfolding iterate
 zero-is-odd-multiple zero h z on e = x-zero-is-odd-multiple z on e
 zero-is-odd-multiple (suc m) h z on e =
-    odd-multiple-halved m h z (zero-is-odd-multiple m (omega arith) (double m31 z) (on-plus m31 m31-laws z z on on) (ap (iterate m (doubleX m31)) (plus-self-x m31 m31-laws z on) ∙ e))
+    odd-multiple-halved m h z
+    (zero-is-odd-multiple m (omega arith) (double m31 z) (on-plus m31 m31-laws z z on on)
+    (ap (iterate m (doubleX m31)) (plus-self-x m31 m31-laws z on) ∙ e))
 
 -- an odd multiple of 2^29 G has x = 0
 odd-multiple-x : (j : ℕ) → multiple m31 (2 ^ 29 * (2 * j + 1)) G .0 ≡ m31 .zero
 odd-multiple-x zero = ap (λ t. t .0) G-quarter
 odd-multiple-x (suc j) =
-    ap (λ (t : ℕ). multiple m31 t G .0) (next-odd j) ∙ ap (λ t. t .0) (G-antipode (2 ^ 29 * (2 * j + 1))) ∙ ap (m31 .neg) (odd-multiple-x j) ∙ R.neg-zero m31 m31-laws
+    ap (λ (t : ℕ). multiple m31 t G .0) (next-odd j) ∙ ap (λ t. t .0) (G-antipode (2 ^ 29 * (2 * j + 1))) ∙ ap (m31 .neg) (odd-multiple-x j)
+    ∙ R.neg-zero m31 m31-laws
   where
     next-odd : (j : ℕ) → 2 ^ 29 * (2 * suc j + 1) ≡ 2 ^ 29 * (2 * j + 1) + 2 ^ 30
     next-odd j = omega arith
@@ -82,7 +88,8 @@ odd-multiple-x (suc j) =
 odd-multiple-is-zero : (m : ℕ) → m ≤ 29 → (j : ℕ) → iterate m (doubleX m31) (multiple m31 (2 ^ (29 - m) * (2 * j + 1)) G .0) ≡ m31 .zero
 odd-multiple-is-zero m h j =
     sym (doublings-x m31 m31-laws m p (on-multiple m31 m31-laws k G G-on))
-    ∙ ap (λ t. t .0) (doublings-multiple m31 m31-laws m p ∙ sym (multiple-mul m31 m31-laws (2 ^ m) k G) ∙ ap (λ (t : ℕ). multiple m31 t G) doubled-count)
+    ∙ ap (λ t. t .0) (doublings-multiple m31 m31-laws m p ∙ sym (multiple-mul m31 m31-laws (2 ^ m) k G)
+    ∙ ap (λ (t : ℕ). multiple m31 t G) doubled-count)
     ∙ odd-multiple-x j
   where
     k : ℕ

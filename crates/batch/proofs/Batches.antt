@@ -203,7 +203,8 @@ module _ (U : Units) (column : List ℕ) (n a b : ℕ) (c : UnitColumn U n colum
   }
 
   module _ (dst after : List ℕ) (long : n * width ≤ length dst)
-      (e : after ≡ putMid (a * width) (b * width - a * width) dst (inverted (U .layout) (U .inverse) (b - a) (part column) (part dst))) where
+      (e : after ≡ putMid (a * width) (b * width - a * width) dst
+      (inverted (U .layout) (U .inverse) (b - a) (part column) (part dst))) where
     unfoldable inner : List ℕ
     inner = inverted (U .layout) (U .inverse) (b - a) (part column) (part dst)
 
@@ -219,7 +220,8 @@ module _ (U : Units) (column : List ℕ) (n a b : ℕ) (c : UnitColumn U n colum
     part-kept before k = record {
       kept = λ j h.
           ap (λ (l : List ℕ). getD l j 0) e
-          ∙ put-after (a * width) (b * width - a * width) dst inner ends inner-length j (omega (arith, N.mul-le-mul-right {m = a} {n = b} width ordered))
+          ∙ put-after (a * width) (b * width - a * width) dst inner ends inner-length j
+          (omega (arith, N.mul-le-mul-right {m = a} {n = b} width ordered))
           ∙ k .kept j (omega (arith, N.mul-le-mul-right {m = a} {n = b} width ordered));
     }
 
@@ -237,11 +239,13 @@ module _ (U : Units) (column : List ℕ) (n a b : ℕ) (c : UnitColumn U n colum
         (λ j lt. ap (λ (l : List ℕ). getD l ((a + i) * width + j) 0) e
         ∙ ap (λ (k : ℕ). getD (putMid (a * width) (b * width - a * width) dst inner) k 0) (omega (arith, N.add-mul a i width))
         ∙ put-within (a * width) (b * width - a * width) dst inner ends inner-length (i * width + j) (omega (arith, place i h)))
-        ∙ inverted-holds U (part column) (part dst) (b - a) (omega (arith, between, part-length dst long)) .holds i (omega arith) (omega arith)
+        ∙ inverted-holds U (part column) (part dst) (b - a) (omega (arith, between, part-length dst long)) .holds i
+        (omega arith) (omega arith)
         ∙ ap (U .inverse) (part-at column i h)
 
     pub part-holds : Holds U (inverses U column) 0 a dst → Holds U (inverses U column) 0 b after
-    part-holds h = record { holds = λ k lo hi. elim (decLt k a) [ yes lt ↦ below-part k lt ∙ h .holds k lo lt | no ge ↦ above k hi (omega arith) ] }
+    part-holds h =
+        record { holds = λ k lo hi. elim (decLt k a) [ yes lt ↦ below-part k lt ∙ h .holds k lo lt | no ge ↦ above k hi (omega arith) ] }
       where
         above : (k : ℕ) → k < b → a + (k - a) ≡ k → at U after k ≡ inverses U column k
         above k hi q = ap (at U after) (sym q) ∙ in-part (k - a) (omega arith) ∙ ap (inverses U column) q
@@ -250,7 +254,8 @@ order : (w a b : ℕ) → 0 < w → a * w ≤ b * w → a ≤ b
 order w a b p h = elim (decLt b a) [ yes lt ↦ omega (arith, within w b a lt) | no ge ↦ omega arith ]
 
 -- a part by its first and last word, which are those of elements
-module _ (U : Units) (column : List ℕ) (n : ℕ) (c : UnitColumn U n column) (from to : ℕ) (start : from ≡ from / U .layout .width * U .layout .width)
+module _ (U : Units) (column : List ℕ) (n : ℕ) (c : UnitColumn U n column) (from to : ℕ)
+    (start : from ≡ from / U .layout .width * U .layout .width)
     (end : to ≡ to / U .layout .width * U .layout .width) (ordered : from ≤ to) (inside : to ≤ length column) where
   open Layout (U .layout) using (width)
 
@@ -269,7 +274,8 @@ module _ (U : Units) (column : List ℕ) (n : ℕ) (c : UnitColumn U n column) (
   part-count : length (mid column) / width ≡ to / width - from / width
   part-count =
       ap (λ (l : List ℕ). length l / width) (same-part column)
-      ∙ ap (λ (k : ℕ). k / width) (part-column U column n (from / width) (to / width) c a≤b b≤n .whole) ∙ N.mul-div-cancel (to / width - from / width) (U .laws .width-pos)
+      ∙ ap (λ (k : ℕ). k / width) (part-column U column n (from / width) (to / width) c a≤b b≤n .whole)
+      ∙ N.mul-div-cancel (to / width - from / width) (U .laws .width-pos)
 
   pub mid-column : UnitColumn U (length (mid column) / width) (mid column)
   mid-column =
@@ -277,7 +283,8 @@ module _ (U : Units) (column : List ℕ) (n : ℕ) (c : UnitColumn U n column) (
       (subst⁻¹ (UnitColumn U (to / width - from / width)) (same-part column) (part-column U column n (from / width) (to / width) c a≤b b≤n))
 
   module _ (dst after : List ℕ) (long : length column ≤ length dst)
-      (e : after ≡ putMid from (to - from) dst (inverted (U .layout) (U .inverse) (length (mid column) / width) (mid column) (mid dst))) where
+      (e : after ≡ putMid from (to - from) dst
+      (inverted (U .layout) (U .inverse) (length (mid column) / width) (mid column) (mid dst))) where
     enough : n * width ≤ length dst
     enough = omega (arith, c .whole)
 
@@ -288,12 +295,14 @@ module _ (U : Units) (column : List ℕ) (n : ℕ) (c : UnitColumn U n column) (
         (midOf (from / width * width) (to / width * width - from / width * width) dst))
     as-part =
         e ∙ ap (λ (k : ℕ). putMid from (to - from) dst (inverted (U .layout) (U .inverse) k (mid column) (mid dst))) part-count
-        ∙ ap₂ (λ (s t : ℕ). putMid s (t - s) dst (inverted (U .layout) (U .inverse) (to / width - from / width) (midOf s (t - s) column) (midOf s (t - s) dst))) start end
+        ∙ ap₂ (λ (s t : ℕ). putMid s (t - s) dst
+        (inverted (U .layout) (U .inverse) (to / width - from / width) (midOf s (t - s) column) (midOf s (t - s) dst))) start end
 
     pub mid-kept : (before : List ℕ) → Kept from dst before → Kept to after before
     mid-kept before k =
         subst⁻¹ (λ (j : ℕ). Kept j after before) end
-        (part-kept U column n (from / width) (to / width) c a≤b b≤n dst after enough as-part before (subst (λ (j : ℕ). Kept j dst before) start k))
+        (part-kept U column n (from / width) (to / width) c a≤b b≤n dst after enough as-part before
+        (subst (λ (j : ℕ). Kept j dst before) start k))
 
     pub mid-holds : Holds U (inverses U column) 0 (from / width) dst → Holds U (inverses U column) 0 (to / width) after
     mid-holds = part-holds U column n (from / width) (to / width) c a≤b b≤n dst after enough as-part

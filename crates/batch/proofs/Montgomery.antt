@@ -79,16 +79,19 @@ module _ (U : Units) where
         → mul last rest ≡ inverses U column k
     unfolding product
     inverse-at zero last rest p h e f = absurd (N.not-suc-le-zero p)
-    inverse-at (suc k) last rest p h e f = ap₂ mul (e ∙ ap (product U column) (less k)) f ∙ inverse-second _ _ (product-unit column n k c (omega arith)) (c .units (suc k) h)
+    inverse-at (suc k) last rest p h e f =
+        ap₂ mul (e ∙ ap (product U column) (less k)) f ∙ inverse-second _ _ (product-unit column n k c (omega arith)) (c .units (suc k) h)
 
     pub rest-below : (k : ℕ) (rest a : El) → 0 < k → k < n → rest ≡ inverse (product U column k) → a ≡ at U column k
         → mul rest a ≡ inverse (product U column (k - 1))
     unfolding product
     rest-below zero rest a p h e f = absurd (N.not-suc-le-zero p)
-    rest-below (suc k) rest a p h e f = ap₂ mul e f ∙ inverse-first _ _ (product-unit column n k c (omega arith)) (c .units (suc k) h) ∙ ap (λ (j : ℕ). inverse (product U column j)) (sym (less k))
+    rest-below (suc k) rest a p h e f = ap₂ mul e f ∙ inverse-first _ _ (product-unit column n k c (omega arith)) (c .units (suc k) h)
+        ∙ ap (λ (j : ℕ). inverse (product U column j)) (sym (less k))
 
   -- a part of the elements
-  pub holds-part : (f : ℕ → El) (dst : List ℕ) (from from′ to to′ : ℕ) → from ≤ from′ → to′ ≤ to → Holds U f from to dst → Holds U f from′ to′ dst
+  pub holds-part : (f : ℕ → El) (dst : List ℕ) (from from′ to to′ : ℕ) → from ≤ from′ → to′ ≤ to → Holds U f from to dst
+      → Holds U f from′ to′ dst
   holds-part f dst from from′ to to′ lo hi h = record { holds = λ j l m. h .holds j (omega arith) (omega arith) }
 
   pub holds-none : (f : ℕ → El) (dst : List ℕ) (from to : ℕ) → to ≤ from → Holds U f from to dst
@@ -109,7 +112,8 @@ module _ (U : Units) where
 
     -- after those below it
     pub holds-next : Holds U f 0 k dst → k * width + width ≤ length dst → a ≡ f k → Holds U f 0 (k + 1) after
-    holds-next h l e = record { holds = λ j lo hi. elim (decLt j k) [ yes lt ↦ other j (inl lt) ∙ h .holds j lo lt | no ge ↦ here l e j (omega arith) ] }
+    holds-next h l e =
+        record { holds = λ j lo hi. elim (decLt j k) [ yes lt ↦ other j (inl lt) ∙ h .holds j lo lt | no ge ↦ here l e j (omega arith) ] }
 
     -- before those above it
     pub holds-down : (n : ℕ) → Holds U f (k + 1) n dst → k * width + width ≤ length dst → a ≡ f k → Holds U f k n after
@@ -199,7 +203,8 @@ module _ (U : Units) where
         same-unit _ _ (w .whole) (product-unit column (size U column) (size U column - 1) (p .elements) (omega arith))
 
     -- from the end of the pass up the pass down starts
-    pub before-inverses : {exit : List ℕ} {whole rest : El} → AfterProducts U column exit whole → length exit ≡ length dst₀ → rest ≡ inverse whole
+    pub before-inverses : {exit : List ℕ} {whole rest : El} → AfterProducts U column exit whole → length exit ≡ length dst₀
+        → rest ≡ inverse whole
         → BeforeInverses U column exit rest
     before-inverses w l e = record {
       elements = p .elements;
@@ -271,7 +276,8 @@ module _ (U : Units) where
   -- a list is known by its elements and the words after them
   pub unique : (f : ℕ → El) (n : ℕ) (l m : List ℕ) → length l ≡ length m → Holds U f 0 n l → Holds U f 0 n m
       → ((j : ℕ) → n * width ≤ j → getD l j 0 ≡ getD m j 0) → l ≡ m
-  unique f n l m e h k rest = ext-getD 0 l m e (λ j lt. elim (decLt j (n * width)) [ yes low ↦ element j low | no high ↦ rest j (omega arith) ])
+  unique f n l m e h k rest =
+      ext-getD 0 l m e (λ j lt. elim (decLt j (n * width)) [ yes low ↦ element j low | no high ↦ rest j (omega arith) ])
     where
       whole : (j : ℕ) → j / width * width + j % width ≡ j
       whole j = N.div-add-mod' j width
@@ -280,7 +286,8 @@ module _ (U : Units) where
       element j lt =
           let i : j / width < n = N.div-lt-iff-lt-mul {k = width} {x = j} {y = n} width-pos .1 lt in
           ap (λ (t : ℕ). getD l t 0) (sym (whole j))
-          ∙ words-read l m (j / width * width) (j / width * width) (h .holds (j / width) (omega arith) i ∙ sym (k .holds (j / width) (omega arith) i)) (j % width) (N.mod-lt j width-pos)
+          ∙ words-read l m (j / width * width) (j / width * width)
+          (h .holds (j / width) (omega arith) i ∙ sym (k .holds (j / width) (omega arith) i)) (j % width) (N.mod-lt j width-pos)
           ∙ ap (λ (t : ℕ). getD m t 0) (whole j)
 
   module _ (column dst : List ℕ) where
@@ -294,7 +301,8 @@ module _ (U : Units) where
     inverted-holds zero l = holds-none (inverses U column) dst 0 0 (omega arith)
     inverted-holds (suc n) l =
         holds-part (inverses U column) _ 0 0 (n + 1) (suc n) (omega arith) (omega arith)
-        (holds-next (inverses U column) (inverted layout inverse n column dst) n (inverses U column n) _ refl (inverted-holds n (omega (arith, N.suc-mul n width)))
+        (holds-next (inverses U column) (inverted layout inverse n column dst) n (inverses U column n) _ refl
+        (inverted-holds n (omega (arith, N.suc-mul n width)))
         (omega (arith, N.suc-mul n width, length-inverted n)) refl)
 
     pub inverted-rest : (n j : ℕ) → n * width ≤ j → getD (inverted layout inverse n column dst) j 0 ≡ getD dst j 0
@@ -314,7 +322,9 @@ module _ (U : Units) where
     -- a destination as long as the column has no words after
     pub is-inverted-whole : (n : ℕ) (l : List ℕ) → length l ≡ length dst → length dst ≡ n * width → Holds U (inverses U column) 0 n l
         → l ≡ inverted layout inverse n column dst
-    is-inverted-whole n l e w h = is-inverted n l e (omega arith) h (λ j le. List·getD-eq-default l 0 {n = j} (omega arith) ∙ sym (List·getD-eq-default dst 0 {n = j} (omega arith)))
+    is-inverted-whole n l e w h =
+        is-inverted n l e (omega arith) h
+        (λ j le. List·getD-eq-default l 0 {n = j} (omega arith) ∙ sym (List·getD-eq-default dst 0 {n = j} (omega arith)))
 
   -- none to invert
   pub none-inverted : {column dst : List ℕ} → length column ≡ 0 → Inverted U column dst dst
@@ -349,10 +359,14 @@ module _ (U : Units) where
   pub pair-column : (n : ℕ) (column : List ℕ) → UnitColumn U (n * 2) column → UnitColumn (pairUnits U) n column
   pair-column n column c = record {
     whole = c .whole ∙ even-place n;
-    units = λ k h. (same-unit _ _ (even-at column k) (c .units (k * 2) (omega arith)), same-unit _ _ (odd-at column k) (c .units (k * 2 + 1) (omega arith)));
+    units = λ k h. (
+      same-unit _ _ (even-at column k) (c .units (k * 2) (omega arith)),
+      same-unit _ _ (odd-at column k) (c .units (k * 2 + 1) (omega arith)),
+    );
   }
 
-  pub pair-holds : (n : ℕ) (column dst : List ℕ) → Holds (pairUnits U) (inverses (pairUnits U) column) 0 n dst → Holds U (inverses U column) 0 (n * 2) dst
+  pub pair-holds : (n : ℕ) (column dst : List ℕ) → Holds (pairUnits U) (inverses (pairUnits U) column) 0 n dst
+      → Holds U (inverses U column) 0 (n * 2) dst
   pair-holds n column dst h = record { holds = λ j lo hi. go j (j / 2) (j % 2) (N.div-add-mod' j 2) (N.mod-lt j {m = 2} (omega arith)) hi }
     where
       even : (k : ℕ) → k < n → at U dst (k * 2) ≡ inverses U column (k * 2)
@@ -399,7 +413,8 @@ module _ (U : Units) {column dst : List ℕ} (p : Inverting U column dst) (fours
   pub lanes-start : 0 < length column → BeforeProducts (laneUnits U) column dst
   lanes-start h = record {
     elements =
-        pair-column (pairUnits U) m column (pair-column U (m * 2) column (subst (λ (k : ℕ). UnitColumn U k column) four-each (p .elements)));
+        pair-column (pairUnits U) m column
+        (pair-column U (m * 2) column (subst (λ (k : ℕ). UnitColumn U k column) four-each (p .elements)));
     room = p .room;
     nonempty = h;
   }

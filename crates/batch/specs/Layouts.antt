@@ -53,7 +53,8 @@ module _ (L : Layout) (laws : LayoutLaws L) where
   pair-words : (l m : List ℕ) (i k : ℕ) → ((j : ℕ) → j < width + width → getD l (i + j) 0 ≡ getD m (k + j) 0)
       → (j : ℕ) → j < width → getD l (i + width + j) 0 ≡ getD m (k + width + j) 0
   pair-words l m i k h j lt =
-      ap (λ (n : ℕ). getD l n 0) (N.add-assoc i width j) ∙ h (width + j) (omega arith) ∙ ap (λ (n : ℕ). getD m n 0) (sym (N.add-assoc k width j))
+      ap (λ (n : ℕ). getD l n 0) (N.add-assoc i width j) ∙ h (width + j) (omega arith)
+      ∙ ap (λ (n : ℕ). getD m n 0) (sym (N.add-assoc k width j))
 
   words-pair : (l m : List ℕ) (i k : ℕ) → read l i ≡ read m k → read l (i + width) ≡ read m (k + width) → (j : ℕ) → j < width + width
       → getD l (i + j) 0 ≡ getD m (k + j) 0
@@ -73,14 +74,18 @@ module _ (L : Layout) (laws : LayoutLaws L) where
     length-write = λ l i x. length-write (write l i (x .0)) (i + width) (x .1) ∙ length-write l i (x .0);
     read-same = λ l i x h t. (read-first l i x h t, read-second l i x h t);
     word-other = λ l i x j h. word-other (write l i (x .0)) (i + width) (x .1) j (later i j h) ∙ word-other l i (x .0) j (sooner i j h);
-    read-words = λ l m i k h t. (read-words l m i k (λ j lt. h j (omega arith)) t, read-words l m (i + width) (k + width) (pair-words l m i k h) t);
+    read-words =
+        λ l m i k h t. (read-words l m i k (λ j lt. h j (omega arith)) t, read-words l m (i + width) (k + width) (pair-words l m i k h) t);
     words-read = λ l m i k e. words-pair l m i k (ap (λ p. p .0) e) (ap (λ p. p .1) e);
   }
     where
-      read-first : (l : List ℕ) (i : ℕ) (x : El × El) → i + (width + width) ≤ length l → read (write (write l i (x .0)) (i + width) (x .1)) i ≡ x .0
-      read-first l i x h = read-other (write l i (x .0)) (i + width) (x .1) i (inl (N.le-refl (i + width))) ∙ read-same l i (x .0) (omega arith)
+      read-first : (l : List ℕ) (i : ℕ) (x : El × El) → i + (width + width) ≤ length l
+          → read (write (write l i (x .0)) (i + width) (x .1)) i ≡ x .0
+      read-first l i x h =
+          read-other (write l i (x .0)) (i + width) (x .1) i (inl (N.le-refl (i + width))) ∙ read-same l i (x .0) (omega arith)
 
-      read-second : (l : List ℕ) (i : ℕ) (x : El × El) → i + (width + width) ≤ length l → read (write (write l i (x .0)) (i + width) (x .1)) (i + width) ≡ x .1
+      read-second : (l : List ℕ) (i : ℕ) (x : El × El) → i + (width + width) ≤ length l
+          → read (write (write l i (x .0)) (i + width) (x .1)) (i + width) ≡ x .1
       read-second l i x h = read-same (write l i (x .0)) (i + width) (x .1) (omega (arith, length-write l i (x .0)))
 
       later : (i j : ℕ) → (j < i) ⊎ (i + (width + width) ≤ j) → (j < i + width) ⊎ (i + width + width ≤ j)
@@ -92,7 +97,8 @@ module _ (L : Layout) (laws : LayoutLaws L) where
       sooner i j (inr h) = inr (omega arith)
 
 -- four elements written one by one
-pub four-writes : (L : Layout) (l : List ℕ) (at : ℕ) (a b c d : L .El) {l₁ l₂ l₃ l₄ : List ℕ} → l₁ ≡ L .write l at a → l₂ ≡ L .write l₁ (at + L .width) b
+pub four-writes : (L : Layout) (l : List ℕ) (at : ℕ) (a b c d : L .El) {l₁ l₂ l₃ l₄ : List ℕ} → l₁ ≡ L .write l at a
+    → l₂ ≡ L .write l₁ (at + L .width) b
     → l₃ ≡ L .write l₂ (at + (L .width + L .width)) c → l₄ ≡ L .write l₃ (at + (L .width + L .width) + L .width) d
     → l₄ ≡ pairLayout (pairLayout L) .write l at ((a, b), (c, d))
 four-writes L l at a b c d e f g h =

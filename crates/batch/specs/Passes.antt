@@ -74,7 +74,8 @@ abbrev pub qm31Layout : Layout
 qm31Layout = pairLayout cm31Layout
 
 abbrev pub qm31Units : Units
-qm31Units = fieldUnits quarticWords qm31 qm31-representation 4 (qm31Layout .read) (qm31Layout .write) (pair-laws cm31Layout (pair-laws wordLayout word-laws))
+qm31Units = fieldUnits quarticWords qm31 qm31-representation 4 (qm31Layout .read) (qm31Layout .write)
+    (pair-laws cm31Layout (pair-laws wordLayout word-laws))
 
 unfoldable pub unitsOf : Field → Units
 unitsOf F.M31 = m31Units

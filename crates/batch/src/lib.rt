@@ -182,7 +182,9 @@ fn part_words(words: usize, chunk: usize, column: usize) -> usize
 
 // Element k of the destination becomes the inverse of element k of the column.
 pub fn batch_inverse_in_place(field: Field, column: &[u32], dst: &mut [u32]) -> WriteAnswer
-    ensures { λ r. ⌜ (r ≡ inPlaceAnswer (columnOf field) (now (column .entry)) (length (now (dst .entry)))) × (now (dst .exit) ≡ batchExit (columnOf field) (inPlaceAnswer (columnOf field) (now (column .entry)) (length (now (dst .entry)))) (now (column .entry)) (now (dst .entry))) ⌝ }
+    ensures { λ r. ⌜ (r ≡ inPlaceAnswer (columnOf field) (now (column .entry)) (length (now (dst .entry))))
+        × (now (dst .exit) ≡ batchExit (columnOf field) (inPlaceAnswer (columnOf field) (now (column .entry)) (length (now (dst .entry))))
+        (now (column .entry)) (now (dst .entry))) ⌝ }
 {
     let answer = check(field, 1, column, dst.len());
     let WriteAnswer::Written = answer else {
@@ -199,7 +201,9 @@ pub fn batch_inverse_chunked(
     dst: &mut [u32],
     chunk: usize,
 ) -> WriteAnswer
-    ensures { λ r. ⌜ (r ≡ chunkedAnswer (columnOf field) chunk (now (column .entry)) (length (now (dst .entry)))) × (now (dst .exit) ≡ batchExit (columnOf field) (chunkedAnswer (columnOf field) chunk (now (column .entry)) (length (now (dst .entry)))) (now (column .entry)) (now (dst .entry))) ⌝ }
+    ensures { λ r. ⌜ (r ≡ chunkedAnswer (columnOf field) chunk (now (column .entry)) (length (now (dst .entry))))
+        × (now (dst .exit) ≡ batchExit (columnOf field)
+        (chunkedAnswer (columnOf field) chunk (now (column .entry)) (length (now (dst .entry)))) (now (column .entry)) (now (dst .entry))) ⌝ }
 {
     let answer = check(field, chunk, column, dst.len());
     let WriteAnswer::Written = answer else {

@@ -39,7 +39,8 @@ index-unique p k h e = point-injective words31 m31 m31-representation p (indexPo
 pub index-on : (k : ℕ) → OnCircle words31 (indexPoint k)
 index-on k =
     m31-representation .injective (squares words31 (indexPoint k)) 1 (m31-representation .add-reduced _ _) (m31-representation .one-reduced)
-    (to-squares words31 m31 element element-homomorphism (indexPoint k) ∙ ap (squares m31) (to-index-point k) ∙ on-multiple m31 m31-laws k G G-on)
+    (to-squares words31 m31 element element-homomorphism (indexPoint k) ∙ ap (squares m31) (to-index-point k)
+    ∙ on-multiple m31 m31-laws k G G-on)
 
 pub index-equal : (j k : ℕ) → (indexPoint j ≡ indexPoint k) ↔ (j % 2 ^ 31 ≡ k % 2 ^ 31)
 index-equal j k = (
@@ -60,7 +61,8 @@ index-add j k = index-reduce (j + k) ∙ multiple-add words31 m31 m31-representa
 pub index-double : (j k turns : ℕ) → 2 * j ≡ k + turns * 2 ^ 31 → double words31 (indexPoint j) ≡ indexPoint k
 index-double j k turns e =
     let twice : j + j ≡ k + turns * 2 ^ 31 = omega arith in
-    sym (index-add j j) ∙ index-reduce (j + j) ∙ index-equal (j + j) k .1 (ap (λ (t : ℕ). t % 2 ^ 31) twice ∙ N.add-mul-mod-self-right k turns (2 ^ 31))
+    sym (index-add j j) ∙ index-reduce (j + j)
+    ∙ index-equal (j + j) k .1 (ap (λ (t : ℕ). t % 2 ^ 31) twice ∙ N.add-mul-mod-self-right k turns (2 ^ 31))
 
 -- 2^31 divides 2^64
 pub mod-64-mod-31 : (m : ℕ) → m % 2 ^ 31 ≡ m % 2 ^ 64 % 2 ^ 31
@@ -84,7 +86,8 @@ index-add-quarter k =
       solveWords words31 m31 m31-representation (indexPoint k .0 ∷ indexPoint k .1 ∷ [])
           (plus exprs (v0, v1) (Expr.:0, :- Expr.:1) .0) v1 (m31-representation .add-reduced _ _) (index-below k .1) tt i,
       solveWords words31 m31 m31-representation (indexPoint k .0 ∷ indexPoint k .1 ∷ [])
-          (plus exprs (v0, v1) (Expr.:0, :- Expr.:1) .1) (:- v0) (m31-representation .add-reduced _ _) (m31-representation .neg-reduced _) tt i,
+          (plus exprs (v0, v1) (Expr.:0, :- Expr.:1) .1) (:- v0) (m31-representation .add-reduced _ _)
+          (m31-representation .neg-reduced _) tt i,
     ))
 
 -- half a turn further lies the antipode
@@ -97,7 +100,8 @@ index-antipode k =
 pub index-conjugate : (k : ℕ) → k ≤ 2 ^ 31 → indexPoint (2 ^ 31 - k) ≡ conjugate words31 (indexPoint k)
 index-conjugate k h =
     sym (index-unique (conjugate words31 (indexPoint k)) (2 ^ 31 - k) (index-below k .0, m31-representation .neg-reduced _)
-    ((λ i. (element (indexPoint k .0), element-homomorphism .to-neg (indexPoint k .1) i)) ∙ ap (conjugate m31) (to-index-point k) ∙ sym (G-conjugate k h)))
+    ((λ i. (element (indexPoint k .0), element-homomorphism .to-neg (indexPoint k .1) i)) ∙ ap (conjugate m31) (to-index-point k)
+    ∙ sym (G-conjugate k h)))
 
 -- where y = 0 the point is its own conjugate, where x = 0 the conjugate is the antipode
 module _ (k : ℕ) (lo : 0 < k) (hi : k < 2 ^ 31) where
@@ -112,11 +116,13 @@ module _ (k : ℕ) (lo : 0 < k) (hi : k < 2 ^ 31) where
   pub index-x-zero : indexPoint k .0 ≡ 0 → (k ≡ 2 ^ 29) ⊎ (k ≡ 3 * 2 ^ 29)
   index-x-zero e = elim (decLt k (2 ^ 30)) [
     | yes l ↦ inl (omega (arith, negative-is-antipode, N.mod-eq-of-lt {n = k + 2 ^ 30} {m = 2 ^ 31} (omega arith)))
-    | no g ↦ inr (omega (arith, negative-is-antipode, N.mod-eq-sub-mod {n = k + 2 ^ 30} {m = 2 ^ 31} (omega arith) ∙ N.mod-eq-of-lt (omega arith)))
+    | no g ↦ inr
+        (omega (arith, negative-is-antipode, N.mod-eq-sub-mod {n = k + 2 ^ 30} {m = 2 ^ 31} (omega arith) ∙ N.mod-eq-of-lt (omega arith)))
   ]
     where
       conjugate-is-antipode : conjugate words31 (indexPoint k) ≡ antipode words31 (indexPoint k)
       conjugate-is-antipode = λ i. ((e ∙ sym (ap negP e)) i, negP (indexPoint k .1))
 
       negative-is-antipode : 2 ^ 31 - k ≡ (k + 2 ^ 30) % 2 ^ 31
-      negative-is-antipode = sym negative-mod ∙ index-equal (2 ^ 31 - k) (k + 2 ^ 30) .0 (index-conjugate k (omega arith) ∙ conjugate-is-antipode ∙ sym (index-antipode k))
+      negative-is-antipode = sym negative-mod
+          ∙ index-equal (2 ^ 31 - k) (k + 2 ^ 30) .0 (index-conjugate k (omega arith) ∙ conjugate-is-antipode ∙ sym (index-antipode k))

@@ -40,9 +40,11 @@ to-doubled-x = to-doublingsX words31 m31 element element-homomorphism
 first-same : (s t : ℕ → Bool) (n : ℕ) → ((k : ℕ) → s k ≡ t k) → first s n ≡ first t n
 unfolding first
 first-same s t zero e = refl
-first-same s t (suc n) e = ap₂ (λ (u : Bool) (m : ℕ). cond u 0 (suc m)) (e 0) (first-same (λ k. s (suc k)) (λ k. t (suc k)) n (λ k. e (suc k)))
+first-same s t (suc n) e =
+    ap₂ (λ (u : Bool) (m : ℕ). cond u 0 (suc m)) (e 0) (first-same (λ k. s (suc k)) (λ k. t (suc k)) n (λ k. e (suc k)))
 
-least-case : (test : ℕ → Bool) (m j : ℕ) (t : Bool) → test 0 ≡ t → ((i : ℕ) → i < m → test (suc i) ≡ false) → j < cond t 0 (suc m) → test j ≡ false
+least-case : (test : ℕ → Bool) (m j : ℕ) (t : Bool) → test 0 ≡ t → ((i : ℕ) → i < m → test (suc i) ≡ false) → j < cond t 0 (suc m)
+    → test j ≡ false
 least-case test m j true e r l = absurd (N.not-suc-le-zero l)
 least-case test m zero false e r l = e
 least-case test m (suc j) false e r l = r j (N.le-of-suc-le-suc l)
@@ -86,7 +88,8 @@ module _ (p : ℕ × ℕ) (h : Words p) (on : OnCircle words31 p) where
 
   is-zero-point : (n : ℕ) → iterate n (double m31) (onPair element p) ≡ zeroPoint m31 → doubled n p ≡ zeroPoint words31
   is-zero-point n e =
-      point-injective words31 m31 m31-representation (doubled n p) (zeroPoint words31) (doublings-reduced words31 m31 m31-representation n p h)
+      point-injective words31 m31 m31-representation (doubled n p) (zeroPoint words31)
+      (doublings-reduced words31 m31 m31-representation n p h)
       (m31-representation .one-reduced, m31-representation .zero-reduced) (to-doubled n ∙ e)
 
   -- 31 doublings reach zero
@@ -103,7 +106,8 @@ module _ (p : ℕ × ℕ) (h : Words p) (on : OnCircle words31 p) where
   -- on the circle the x of the doubled points needs no y
   pub doubled-x : (n : ℕ) → doubled n p .0 ≡ iterate n (doubleX words31) (p .0)
   doubled-x n =
-      m31-representation .injective (doubled n p .0) (iterate n (doubleX words31) (p .0)) (doublings-reduced words31 m31 m31-representation n p h .0)
+      m31-representation .injective (doubled n p .0) (iterate n (doubleX words31) (p .0))
+      (doublings-reduced words31 m31 m31-representation n p h .0)
       (doubled-x-below n (p .0) (h .0))
       (ap (λ t. t .0) (to-doubled n) ∙ doublings-x m31 m31-laws n (onPair element p) on-field ∙ sym (to-doubled-x n (p .0)))
 
@@ -118,7 +122,8 @@ module _ (p : ℕ × ℕ) (h : Words p) (on : OnCircle words31 p) where
 
   pub log-order-reaches : doubled (logOrder p) p ≡ zeroPoint words31
   unfolding logOrder
-  log-order-reaches = is-zero (doubled (logOrder p) p) (first-reaches (λ n. isZero (doubled n p)) 31 (is-zero-holds (doubled 31 p) doubled-31))
+  log-order-reaches =
+      is-zero (doubled (logOrder p) p) (first-reaches (λ n. isZero (doubled n p)) 31 (is-zero-holds (doubled 31 p) doubled-31))
 
 -- for any point, on the circle or off it
 pub log-order-least : (p : ℕ × ℕ) (n : ℕ) → n < logOrder p → ¬ (doubled n p ≡ zeroPoint words31)

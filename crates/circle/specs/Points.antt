@@ -25,7 +25,8 @@ module _ (W K : Ops) (H : Representation W K) where
 
   -- reduced words of one point are equal
   pub point-injective : (p q : W .El × W .El) → PointReduced p → PointReduced q → onPair element p ≡ onPair element q → p ≡ q
-  point-injective p q h k e = λ i. (injective (p .0) (q .0) (h .0) (k .0) (ap (λ t. t .0) e) i, injective (p .1) (q .1) (h .1) (k .1) (ap (λ t. t .1) e) i)
+  point-injective p q h k e =
+      λ i. (injective (p .0) (q .0) (h .0) (k .0) (ap (λ t. t .0) e) i, injective (p .1) (q .1) (h .1) (k .1) (ap (λ t. t .1) e) i)
 
   to-plus : (p q : W .El × W .El) → onPair element (plus W p q) ≡ plus K (onPair element p) (onPair element q)
   to-plus = T.to-plus W K element homomorphism
@@ -61,7 +62,8 @@ module _ (W K : Ops) (H : Representation W K) where
   pub plus-zero : (p : W .El × W .El) → PointReduced p → plus W p (zeroPoint W) ≡ p
   plus-zero p h =
       point-injective (plus W p (zeroPoint W)) p (plus-reduced _ _) h
-      (to-plus p (zeroPoint W) ∙ ap (plus K (onPair element p)) (λ i. (to-one i, to-zero i)) ∙ C.plus-zero K (field .laws) (onPair element p))
+      (to-plus p (zeroPoint W) ∙ ap (plus K (onPair element p)) (λ i. (to-one i, to-zero i))
+      ∙ C.plus-zero K (field .laws) (onPair element p))
 
   pub zero-plus : (p : W .El × W .El) → PointReduced p → plus W (zeroPoint W) p ≡ p
   zero-plus p h = plus-comm (zeroPoint W) p ∙ plus-zero p h
@@ -78,7 +80,8 @@ module _ (W K : Ops) (H : Representation W K) where
 
   pub multiple-mul : (m n : ℕ) (p : W .El × W .El) → multiple W (m * n) p ≡ multiple W m (multiple W n p)
   multiple-mul m n p =
-      point-injective (multiple W (m * n) p) (multiple W m (multiple W n p)) (multiple-reduced (m * n) p) (multiple-reduced m (multiple W n p))
+      point-injective (multiple W (m * n) p) (multiple W m (multiple W n p)) (multiple-reduced (m * n) p)
+      (multiple-reduced m (multiple W n p))
       (to-multiple (m * n) p ∙ C.multiple-mul K (field .laws) m n (onPair element p)
       ∙ sym (to-multiple m (multiple W n p) ∙ ap (multiple K m) (to-multiple n p)))
 
@@ -99,7 +102,8 @@ module _ (W K : Ops) (H : Representation W K) where
   pub power-multiple : (n : ℕ) (p : W .El × W .El) → pow (complex W) p n ≡ multiple W n p
   power-multiple n p =
       point-injective (pow (complex W) p n) (multiple W n p) (power-reduced n p) (multiple-reduced n p)
-      (to-pow (complex W) (complex K) (onPair element) to-complex p n ∙ sym (C.multiple-pow K (field .laws) n (onPair element p)) ∙ sym (to-multiple n p))
+      (to-pow (complex W) (complex K) (onPair element) to-complex p n ∙ sym (C.multiple-pow K (field .laws) n (onPair element p))
+      ∙ sym (to-multiple n p))
 
   -- double-and-add: res and cur before and after a step, n the count that was left before it
   pub add-step : (res cur res′ cur′ : W .El × W .El) (n : ℕ) → res′ ≡ plus W res (multiple W (n % 2) cur) → cur′ ≡ plus W cur cur
@@ -116,7 +120,8 @@ module _ (W K : Ops) (H : Representation W K) where
       step =
           point-injective (plus W (plus W res low) high) (plus W res (multiple W n cur)) (plus-reduced _ _) (plus-reduced _ _)
           (to-plus (plus W res low) high
-          ∙ ap₂ (plus K) (to-plus res low ∙ ap (plus K (onPair element res)) (to-multiple (n % 2) cur)) (to-multiple (n / 2) (plus W cur cur) ∙ ap (multiple K (n / 2)) (to-plus cur cur))
+          ∙ ap₂ (plus K) (to-plus res low ∙ ap (plus K (onPair element res)) (to-multiple (n % 2) cur))
+          (to-multiple (n / 2) (plus W cur cur) ∙ ap (multiple K (n / 2)) (to-plus cur cur))
           ∙ C.double-and-add K (field .laws) (onPair element res) (onPair element cur) n
           ∙ sym (to-plus res (multiple W n cur) ∙ ap (plus K (onPair element res)) (to-multiple n cur)))
 

@@ -27,13 +27,17 @@ point-at-cons x y words k =
 
 -- points of the first list, and past it
 point-at-append : (xs ys : List ℕ) (n k : ℕ) → length xs ≡ 2 * n → k < n → pointAt (xs ++ ys) k ≡ pointAt xs k
-point-at-append xs ys n k e h = λ i. (List·getD-append xs ys 0 (2 * k) (omega (arith, e)) i, List·getD-append xs ys 0 (2 * k + 1) (omega (arith, e)) i)
+point-at-append xs ys n k e h =
+    λ i. (List·getD-append xs ys 0 (2 * k) (omega (arith, e)) i, List·getD-append xs ys 0 (2 * k + 1) (omega (arith, e)) i)
 
 point-at-append-add : (xs ys : List ℕ) (n k : ℕ) → length xs ≡ 2 * n → pointAt (xs ++ ys) (n + k) ≡ pointAt ys k
 point-at-append-add xs ys n k e =
     let f : 2 * (n + k) ≡ length xs + 2 * k = omega (arith, e) in
     let g : 2 * (n + k) + 1 ≡ length xs + (2 * k + 1) = omega (arith, e) in
-    λ i. ((ap (λ (j : ℕ). getD (xs ++ ys) j 0) f ∙ getD-append-add xs ys (2 * k) 0) i, (ap (λ (j : ℕ). getD (xs ++ ys) j 0) g ∙ getD-append-add xs ys (2 * k + 1) 0) i)
+    λ i. (
+      (ap (λ (j : ℕ). getD (xs ++ ys) j 0) f ∙ getD-append-add xs ys (2 * k) 0) i,
+      (ap (λ (j : ℕ). getD (xs ++ ys) j 0) g ∙ getD-append-add xs ys (2 * k + 1) 0) i,
+    )
 
 run-length : (n : ℕ) (base p : ℕ × ℕ) → length (run n base p) ≡ 2 * n
 unfolding run
@@ -57,15 +61,18 @@ run-start n i base h = run-at n 0 i base h ∙ ap (λ (k : ℕ). multiple words3
 window-at : (m w d : ℕ) (base : ℕ × ℕ) → w ≤ m → d < digits → (w ≡ m → d < lastDigits)
     → pointAt (windowsFrom m base) (digits * w + d) ≡ multiple words31 (d * digits ^ w) base
 unfolding windowsFrom
-window-at zero zero d base l h k = ap (pointAt (run lastDigits base (zeroPoint words31))) (N.zero-add d) ∙ run-start lastDigits d base (k refl) ∙ ap (λ (n : ℕ). multiple words31 n base) (sym (N.mul-one d))
+window-at zero zero d base l h k = ap (pointAt (run lastDigits base (zeroPoint words31))) (N.zero-add d)
+    ∙ run-start lastDigits d base (k refl) ∙ ap (λ (n : ℕ). multiple words31 n base) (sym (N.mul-one d))
 window-at zero (suc w) d base l h k = absurd (N.not-suc-le-zero l)
 window-at (suc m) zero d base l h k =
     ap (pointAt (run digits base (zeroPoint words31) ++ windowsFrom m (multiple words31 digits base))) (N.zero-add d)
-    ∙ point-at-append (run digits base (zeroPoint words31)) (windowsFrom m (multiple words31 digits base)) digits d (run-length digits base (zeroPoint words31)) h
+    ∙ point-at-append (run digits base (zeroPoint words31)) (windowsFrom m (multiple words31 digits base)) digits d
+    (run-length digits base (zeroPoint words31)) h
     ∙ run-start digits d base h ∙ ap (λ (n : ℕ). multiple words31 n base) (sym (N.mul-one d))
 window-at (suc m) (suc w) d base l h k =
     ap (pointAt (run digits base (zeroPoint words31) ++ windowsFrom m (multiple words31 digits base))) (past w d)
-    ∙ point-at-append-add (run digits base (zeroPoint words31)) (windowsFrom m (multiple words31 digits base)) digits (digits * w + d) (run-length digits base (zeroPoint words31))
+    ∙ point-at-append-add (run digits base (zeroPoint words31)) (windowsFrom m (multiple words31 digits base)) digits (digits * w + d)
+    (run-length digits base (zeroPoint words31))
     ∙ window-at m w d (multiple words31 digits base) (N.le-of-suc-le-suc l) h (λ e. k (ap suc e))
     ∙ sym (multiple-mul words31 m31 m31-representation (d * digits ^ w) digits base)
     ∙ ap (λ (n : ℕ). multiple words31 n base) (N.mul-assoc d (digits ^ w) digits ∙ ap (λ (n : ℕ). d * n) (sym (N.pow-suc digits w)))
@@ -82,7 +89,10 @@ unfolding tableWords
 table-entry w d t = window-at (windows - 1) w d generator (omega arith) (t .isDigit) (last-digit w d (t .isIndex))
 
 row-at : (k i : ℕ) → i < 16 → pointAt (tableRow k) i ≡ pointAt tableWords (16 * k + i)
-row-at k i h = λ j. (word (2 * i) (2 * (16 * k + i)) (omega arith) (omega arith) j, word (2 * i + 1) (2 * (16 * k + i) + 1) (omega arith) (omega arith) j)
+row-at k i h = λ j. (
+  word (2 * i) (2 * (16 * k + i)) (omega arith) (omega arith) j,
+  word (2 * i + 1) (2 * (16 * k + i) + 1) (omega arith) (omega arith) j,
+)
   where
     word : (m n : ℕ) → m < 32 → 32 * k + m ≡ n → getD (tableRow k) m 0 ≡ getD tableWords n 0
     word m n l e = getD-take 32 (drop (32 * k) tableWords) m 0 l ∙ getD-drop (32 * k) tableWords m 0 ∙ ap (λ (t : ℕ). getD tableWords t 0) e

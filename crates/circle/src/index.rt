@@ -1,6 +1,7 @@
 // Point indices: the index k stands for the point k G (stwo's CirclePointIndex).
 ghost use mathlib.Core.Path.{_≡_};
-ghost use Rattle.circle.specs.Index.{ofIndex, reduceAnswer, subgroupGenAnswer, toPointAnswer, halfAnswer, addAnswer, subAnswer, negAnswer, mulAnswer};
+ghost use Rattle.circle.specs.Index.{ofIndex, reduceAnswer, subgroupGenAnswer, toPointAnswer};
+ghost use Rattle.circle.specs.Index.{halfAnswer, addAnswer, subAnswer, negAnswer, mulAnswer};
 use crate::point::CirclePointAnswer;
 use crate::point::M31_CIRCLE_LOG_ORDER;
 use fields::refusal::Refusal;

@@ -7,7 +7,8 @@ use native.Mathlib.Omega.{arith}
 use lib.ListN.{length, take, drop, length-append, length-drop, drop-of-length-le}
 use lib.Seq.{take-at, drop-at, take-take, drop-drop, take-add, take-all, length-take-le, take-append-add, drop-append-add}
 use Rattle.algebra.specs.Ring.{Ops}
-use Rattle.column.specs.Butterflies.{onHalves, butterflySum, butterflyDifference, butterflies, evaluateBlock, inverseSum, inverseDifference, inverseButterflies, interpolateBlock}
+use Rattle.column.specs.Butterflies.{onHalves, butterflySum, butterflyDifference, butterflies, evaluateBlock}
+use Rattle.column.specs.Butterflies.{inverseSum, inverseDifference, inverseButterflies, interpolateBlock}
 use Rattle.column.specs.Lists.{zip-length, halves-length}
 use Rattle.column.specs.Inverse.{interpolate-length}
 
@@ -28,7 +29,8 @@ module _ {A : Type 0} where
     rest-length : count * w ≤ length (drop w c)
     rest-length = omega (arith, N.suc-mul count w, length-drop w c)
 
-  pub blocks-length : (count w : ℕ) (F : ℕ → List A → List A) → Keeps w F → (i : ℕ) (c : List A) → count * w ≤ length c → length (blocks count w F i c) ≡ length c
+  pub blocks-length : (count w : ℕ) (F : ℕ → List A → List A) → Keeps w F → (i : ℕ) (c : List A) → count * w ≤ length c
+      → length (blocks count w F i c) ≡ length c
   unfolding blocks
   blocks-length zero w F k i c h = refl
   blocks-length (suc count) w F k i c h =
@@ -57,7 +59,8 @@ module _ {A : Type 0} where
       let further : suc count * w ≡ length first + count * w = omega (arith, size, N.suc-mul count w) in
       let next : i + suc count ≡ i + 1 + count = omega arith in
       ap₂ (λ (s j : ℕ). take s (first ++ rest) ++ (F j (take w (drop s (first ++ rest))) ++ drop w (drop s (first ++ rest)))) further next
-      ∙ ap₂ (λ (a b : List A). a ++ (F (i + 1 + count) (take w b) ++ drop w b)) (take-append-add first rest (count * w)) (drop-append-add first rest (count * w))
+      ∙ ap₂ (λ (a b : List A). a ++ (F (i + 1 + count) (take w b) ++ drop w b)) (take-append-add first rest (count * w))
+      (drop-append-add first rest (count * w))
       ∙ append-assoc first (take (count * w) rest) (F (i + 1 + count) (take w (drop (count * w) rest)) ++ drop w (drop (count * w) rest))
       ∙ ap (λ (r : List A). first ++ r) (blocks-next count w F k (i + 1) (drop w c) (rest-length (suc count) w c h))
 
@@ -93,17 +96,20 @@ module _ {A : Type 0} where
       let further : 2 * i + 1 + 1 ≡ 2 * (i + 1) = omega arith in
       let size : length (take w c) ≡ w = length-take-le w c (omega (arith, N.suc-mul count (w + w))) in
       let lower : take w (take (w + w) c) ≡ take w c = take-take w (w + w) c (omega arith) in
-      let upper : drop w (take (w + w) c) ≡ take w (drop w c) = ap (drop w) (take-add w w c) ∙ drop-at (take w c) (take w (drop w c)) w size in
+      let upper : drop w (take (w + w) c) ≡ take w (drop w c) =
+      ap (drop w) (take-add w w c) ∙ drop-at (take w c) (take w (drop w c)) w size in
       let rest : List A = blocks count (w + w) (twoBlocks w F) (i + 1) (drop (w + w) c) in
       two-more (count + count) (suc count + suc count) (omega arith)
-      ∙ ap₂ (λ (j : ℕ) (d : List A). F (2 * i) (take w c) ++ (F (2 * i + 1) (take w (drop w c)) ++ blocks (count + count) w F j d)) further (drop-drop w w c)
+      ∙ ap₂ (λ (j : ℕ) (d : List A). F (2 * i) (take w c) ++ (F (2 * i + 1) (take w (drop w c)) ++ blocks (count + count) w F j d)) further
+      (drop-drop w w c)
       ∙ ap (λ (q : List A). F (2 * i) (take w c) ++ (F (2 * i + 1) (take w (drop w c)) ++ q))
       (blocks-pair count w F (i + 1) (drop (w + w) c) (rest-length count (w + w) c h))
       ∙ sym (append-assoc (F (2 * i) (take w c)) (F (2 * i + 1) (take w (drop w c))) rest)
       ∙ ap₂ (λ (x y : List A). (F (2 * i) x ++ F (2 * i + 1) y) ++ rest) (sym lower) (sym upper)
     where
       two-more : (n k : ℕ) → k ≡ suc (suc n)
-          → blocks k w F (2 * i) c ≡ F (2 * i) (take w c) ++ (F (2 * i + 1) (take w (drop w c)) ++ blocks n w F (2 * i + 1 + 1) (drop w (drop w c)))
+          → blocks k w F (2 * i) c ≡ F (2 * i) (take w c)
+          ++ (F (2 * i + 1) (take w (drop w c)) ++ blocks n w F (2 * i + 1 + 1) (drop w (drop w c)))
       two-more n k e = ap (λ (z : ℕ). blocks z w F (2 * i) c) e
 
   pub one-block : (w : ℕ) (F : ℕ → List A → List A) (i : ℕ) (c : List A) → length c ≡ w → blocks 1 w F i c ≡ F i c
@@ -133,24 +139,29 @@ module _ (O : Ops) where
 
   -- a layer of butterflies takes the blocks of one size to those of half the size
   module _ (tw : ℕ → ℕ → El) (k : ℕ) where
-    pub layer-block : (j : ℕ) (d : List El) → length d ≡ 2 ^ k + 2 ^ k → twoBlocks (2 ^ k) (evaluateBlock O k tw) j (butterflies O (2 ^ k) (tw k j) d) ≡ evaluateBlock O (suc k) tw j d
+    pub layer-block : (j : ℕ) (d : List El) → length d ≡ 2 ^ k + 2 ^ k
+        → twoBlocks (2 ^ k) (evaluateBlock O k tw) j (butterflies O (2 ^ k) (tw k j) d) ≡ evaluateBlock O (suc k) tw j d
     unfolding butterflies evaluateBlock
     layer-block j d e =
         let size : length d ≡ 2 ^ suc k = e ∙ sym (N.two-pow-succ k) in
         let lower : List El = onHalves (butterflySum O (tw k j)) (2 ^ k) d in
         let upper : List El = onHalves (butterflyDifference O (tw k j)) (2 ^ k) d in
         let same : length lower ≡ 2 ^ k = halves-length k d size (butterflySum O (tw k j)) in
-        ap₂ (λ (x y : List El). evaluateBlock O k tw (2 * j) x ++ evaluateBlock O k tw (2 * j + 1) y) (take-at lower upper (2 ^ k) same) (drop-at lower upper (2 ^ k) same)
+        ap₂ (λ (x y : List El). evaluateBlock O k tw (2 * j) x ++ evaluateBlock O k tw (2 * j + 1) y) (take-at lower upper (2 ^ k) same)
+        (drop-at lower upper (2 ^ k) same)
 
     pub evaluate-layer : (count i : ℕ) (c : List El) → count * (2 ^ k + 2 ^ k) ≤ length c
-        → blocks (count + count) (2 ^ k) (evaluateBlock O k tw) (2 * i) (blocks count (2 ^ k + 2 ^ k) (λ j. butterflies O (2 ^ k) (tw k j)) i c)
+        → blocks (count + count) (2 ^ k) (evaluateBlock O k tw) (2 * i)
+        (blocks count (2 ^ k + 2 ^ k) (λ j. butterflies O (2 ^ k) (tw k j)) i c)
         ≡ blocks count (2 ^ k + 2 ^ k) (evaluateBlock O (suc k) tw) i c
     evaluate-layer count i c h =
         let F : ℕ → List El → List El = λ j. butterflies O (2 ^ k) (tw k j) in
         let keeps : Keeps (2 ^ k + 2 ^ k) F = λ j d. butterflies-length (2 ^ k) (tw k j) d in
-        blocks-pair count (2 ^ k) (evaluateBlock O k tw) i (blocks count (2 ^ k + 2 ^ k) F i c) (omega (arith, blocks-length count (2 ^ k + 2 ^ k) F keeps i c h))
+        blocks-pair count (2 ^ k) (evaluateBlock O k tw) i (blocks count (2 ^ k + 2 ^ k) F i c)
+        (omega (arith, blocks-length count (2 ^ k + 2 ^ k) F keeps i c h))
         ∙ blocks-compose count (2 ^ k + 2 ^ k) F (twoBlocks (2 ^ k) (evaluateBlock O k tw)) keeps i c h
-        ∙ blocks-equal count (2 ^ k + 2 ^ k) (λ j d. twoBlocks (2 ^ k) (evaluateBlock O k tw) j (F j d)) (evaluateBlock O (suc k) tw) layer-block i c h
+        ∙ blocks-equal count (2 ^ k + 2 ^ k) (λ j d. twoBlocks (2 ^ k) (evaluateBlock O k tw) j (F j d))
+        (evaluateBlock O (suc k) tw) layer-block i c h
 
   -- a layer of inverse butterflies takes the blocks of one size to those of twice the size
   module _ (tv : ℕ → ℕ → El) (k : ℕ) where
@@ -167,12 +178,18 @@ module _ (O : Ops) where
         let a : List El = interpolateBlock O k tv (2 * j) (take (2 ^ k) d) in
         let b : List El = interpolateBlock O k tv (2 * j + 1) (drop (2 ^ k) d) in
         let same : length a ≡ 2 ^ k = interpolate-length O k tv (2 * j) (take (2 ^ k) d) (length-take-le (2 ^ k) d (omega arith)) in
-        ap₂ (λ (x y : List El). zipWith (inverseSum O) x y ++ zipWith (inverseDifference O (tv k j)) x y) (take-at a b (2 ^ k) same) (drop-at a b (2 ^ k) same)
+        ap₂ (λ (x y : List El). zipWith (inverseSum O) x y ++ zipWith (inverseDifference O (tv k j)) x y) (take-at a b (2 ^ k) same)
+        (drop-at a b (2 ^ k) same)
 
     pub interpolate-layer : (count i : ℕ) (c : List El) → count * (2 ^ k + 2 ^ k) ≤ length c
-        → blocks count (2 ^ k + 2 ^ k) (λ j. inverseButterflies O (2 ^ k) (tv k j)) i (blocks (count + count) (2 ^ k) (interpolateBlock O k tv) (2 * i) c)
+        → blocks count (2 ^ k + 2 ^ k) (λ j. inverseButterflies O (2 ^ k) (tv k j)) i
+        (blocks (count + count) (2 ^ k) (interpolateBlock O k tv) (2 * i) c)
         ≡ blocks count (2 ^ k + 2 ^ k) (interpolateBlock O (suc k) tv) i c
     interpolate-layer count i c h =
-        ap (blocks count (2 ^ k + 2 ^ k) (λ j. inverseButterflies O (2 ^ k) (tv k j)) i) (blocks-pair count (2 ^ k) (interpolateBlock O k tv) i c h)
-        ∙ blocks-compose count (2 ^ k + 2 ^ k) (twoBlocks (2 ^ k) (interpolateBlock O k tv)) (λ j. inverseButterflies O (2 ^ k) (tv k j)) keeps-two i c h
-        ∙ blocks-equal count (2 ^ k + 2 ^ k) (λ j d. inverseButterflies O (2 ^ k) (tv k j) (twoBlocks (2 ^ k) (interpolateBlock O k tv) j d)) (interpolateBlock O (suc k) tv) inverse-block i c h
+        ap (blocks count (2 ^ k + 2 ^ k) (λ j. inverseButterflies O (2 ^ k) (tv k j)) i)
+        (blocks-pair count (2 ^ k) (interpolateBlock O k tv) i c h)
+        ∙ blocks-compose count (2 ^ k + 2 ^ k) (twoBlocks (2 ^ k) (interpolateBlock O k tv))
+        (λ j. inverseButterflies O (2 ^ k) (tv k j)) keeps-two i c h
+        ∙ blocks-equal count (2 ^ k + 2 ^ k)
+        (λ j d. inverseButterflies O (2 ^ k) (tv k j) (twoBlocks (2 ^ k) (interpolateBlock O k tv) j d))
+        (interpolateBlock O (suc k) tv) inverse-block i c h

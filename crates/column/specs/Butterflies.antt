@@ -50,7 +50,8 @@ module _ (O : Ops) where
   interpolateBlock zero tv i v = v
   interpolateBlock (suc k) tv i v =
       zipWith inverseSum (interpolateBlock k tv (2 * i) (take (2 ^ k) v)) (interpolateBlock k tv (2 * i + 1) (drop (2 ^ k) v))
-      ++ zipWith (inverseDifference (tv k i)) (interpolateBlock k tv (2 * i) (take (2 ^ k) v)) (interpolateBlock k tv (2 * i + 1) (drop (2 ^ k) v))
+      ++ zipWith (inverseDifference (tv k i)) (interpolateBlock k tv (2 * i) (take (2 ^ k) v))
+      (interpolateBlock k tv (2 * i + 1) (drop (2 ^ k) v))
 
   -- each element times s
   unfoldable pub scaled : El → List El → List El

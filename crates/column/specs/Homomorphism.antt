@@ -10,7 +10,8 @@ use Rattle.algebra.specs.Homomorphism.{Homomorphism, onPair, to-sub}
 use Rattle.algebra.specs.CircleHomomorphism.{to-doublingsX}
 use Rattle.algebra.specs.Listing.{listing}
 use Rattle.column.specs.Column.{factor, product, sum, combination, value, values}
-use Rattle.column.specs.Butterflies.{onHalves, butterflySum, butterflyDifference, evaluateBlock, inverseSum, inverseDifference, interpolateBlock, scaled, onTheWay}
+use Rattle.column.specs.Butterflies.{onHalves, butterflySum, butterflyDifference, evaluateBlock}
+use Rattle.column.specs.Butterflies.{inverseSum, inverseDifference, interpolateBlock, scaled, onTheWay}
 
 module _ {X Y : Type 0} (f : X → Y) where
   pub map-take : (n : ℕ) (a : List X) → map f (take n a) ≡ take n (map f a)
@@ -81,7 +82,8 @@ module _ (A B : Ops) (f : A .El → B .El) (H : Homomorphism A B f) where
   pub to-values : (n : ℕ) (point : ℕ → A .El × A .El) (c : List (A .El))
       → map f (values A n point c) ≡ values B n (λ p. onPair f (point p)) (map f c)
   unfolding values
-  to-values n point c = map-listing f (2 ^ n) (λ p. value A n c (point p)) (λ p. value B n (map f c) (onPair f (point p))) (λ p. to-value n c (point p))
+  to-values n point c =
+      map-listing f (2 ^ n) (λ p. value A n c (point p)) (λ p. value B n (map f c) (onPair f (point p))) (λ p. to-value n c (point p))
 
   -- ---- butterflies
 
@@ -118,7 +120,8 @@ module _ (A B : Ops) (f : A .El → B .El) (H : Homomorphism A B f) where
       map-append f (evaluateBlock A k tw (2 * i) lower) (evaluateBlock A k tw (2 * i + 1) upper)
       ∙ ap₂ _++_
       (to-evaluate k tw (2 * i) lower
-      ∙ ap (evaluateBlock B k tv (2 * i)) (map-halves f (butterflySum A (tw k i)) (butterflySum B (f (tw k i))) (to-butterfly-sum (tw k i)) (2 ^ k) c))
+      ∙ ap (evaluateBlock B k tv (2 * i))
+      (map-halves f (butterflySum A (tw k i)) (butterflySum B (f (tw k i))) (to-butterfly-sum (tw k i)) (2 ^ k) c))
       (to-evaluate k tw (2 * i + 1) upper
       ∙ ap (evaluateBlock B k tv (2 * i + 1))
       (map-halves f (butterflyDifference A (tw k i)) (butterflyDifference B (f (tw k i))) (to-butterfly-difference (tw k i)) (2 ^ k) c))

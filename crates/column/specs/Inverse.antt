@@ -10,7 +10,8 @@ use Rattle.algebra.specs.Ring.{Ops, Laws, two}
 use Rattle.algebra.specs.Polynomial.{Expr, _:+_, _:*_, :-_, exprs, given, v0, v1, v2, v3, v4}
 use Rattle.algebra.specs.Solver.{solve, solveFrom}
 use Rattle.algebra.specs.Power.{pow}
-use Rattle.column.specs.Butterflies.{onHalves, butterflySum, butterflyDifference, evaluateBlock, inverseSum, inverseDifference, interpolateBlock, scaled}
+use Rattle.column.specs.Butterflies.{onHalves, butterflySum, butterflyDifference, evaluateBlock}
+use Rattle.column.specs.Butterflies.{inverseSum, inverseDifference, interpolateBlock, scaled}
 use Rattle.column.specs.Lists.{zip-length, zip-zip, zip-equal, lower-length, upper-length, halves-length}
 use Rattle.column.specs.Paths.{evaluate-length}
 
@@ -48,7 +49,8 @@ module _ (O : Ops) where
   scaled-zip s f (x ∷ a) [] = refl
   scaled-zip s f (x ∷ a) (y ∷ b) = ap (λ (r : List El). f x y ⊗ s ∷ r) (scaled-zip s f a b)
 
-  pub zip-scaled : (s : El) (f : El → El → El) (a b : List El) → zipWith f (scaled O s a) (scaled O s b) ≡ zipWith (λ (x y : El). f (x ⊗ s) (y ⊗ s)) a b
+  pub zip-scaled : (s : El) (f : El → El → El) (a b : List El)
+      → zipWith f (scaled O s a) (scaled O s b) ≡ zipWith (λ (x y : El). f (x ⊗ s) (y ⊗ s)) a b
   unfolding zipWith scaled
   zip-scaled s f [] b = refl
   zip-scaled s f (x ∷ a) [] = refl
@@ -80,7 +82,12 @@ module _ (O : Ops) where
       let la : length a ≡ 2 ^ k = interpolate-length k tv (2 * i) (take (2 ^ k) v) (lower-length k v e) in
       let lb : length b ≡ 2 ^ k = interpolate-length k tv (2 * i + 1) (drop (2 ^ k) v) (upper-length k v e) in
       length-append (zipWith (inverseSum O) a b) (zipWith (inverseDifference O (tv k i)) a b)
-      ∙ omega (arith, N.two-pow-succ k, zip-length (inverseSum O) a b (lb ∙ sym la), zip-length (inverseDifference O (tv k i)) a b (lb ∙ sym la))
+      ∙ omega (
+        arith,
+        N.two-pow-succ k,
+        zip-length (inverseSum O) a b (lb ∙ sym la),
+        zip-length (inverseDifference O (tv k i)) a b (lb ∙ sym la),
+      )
 
 module _ (O : Ops) (L : Laws O) where
   open Ops O using (El, one as 𝟙, mul as _⊗_)
@@ -192,9 +199,11 @@ module _ (O : Ops) (L : Laws O) where
         ∙ interpolate-evaluate k (2 * i + 1) upper (halves-length k c e (butterflyDifference O w)) less)
         ∙ ap₂ _++_
         (zip-scaled O s (inverseSum O) lower upper
-        ∙ first-back (butterflySum O w) (butterflyDifference O w) (two O ⊗ s) a b same (λ (x y : El). inverseSum O (x ⊗ s) (y ⊗ s)) (forth-sum w s))
+        ∙ first-back (butterflySum O w) (butterflyDifference O w) (two O ⊗ s) a b same (λ (x y : El). inverseSum O (x ⊗ s) (y ⊗ s))
+        (forth-sum w s))
         (zip-scaled O s (inverseDifference O t) lower upper
-        ∙ second-back (butterflySum O w) (butterflyDifference O w) (two O ⊗ s) a b same (λ (x y : El). inverseDifference O t (x ⊗ s) (y ⊗ s))
+        ∙ second-back (butterflySum O w) (butterflyDifference O w) (two O ⊗ s) a b same
+        (λ (x y : El). inverseDifference O t (x ⊗ s) (y ⊗ s))
         (forth-difference w t s (inverses k i (omega arith))))
         ∙ sym (scaled-append O (two O ⊗ s) a b) ∙ ap (scaled O (two O ⊗ s)) (take-append-drop half c)
 
@@ -226,6 +235,8 @@ module _ (O : Ops) (L : Laws O) where
         (ap₂ (zipWith (butterflyDifference O w)) (take-at sums differences half ls) (drop-at sums differences half ls)
         ∙ second-back (inverseSum O) (inverseDifference O t) (two O) a b same (butterflyDifference O w) (back-difference w t own))
         ∙ ap₂ _++_
-        (evaluate-scaled k tw (2 * i) (two O) a ∙ ap (scaled O (two O)) (evaluate-interpolate k (2 * i) (take half v) ll less) ∙ up (take half v))
-        (evaluate-scaled k tw (2 * i + 1) (two O) b ∙ ap (scaled O (two O)) (evaluate-interpolate k (2 * i + 1) (drop half v) lu less) ∙ up (drop half v))
+        (evaluate-scaled k tw (2 * i) (two O) a ∙ ap (scaled O (two O)) (evaluate-interpolate k (2 * i) (take half v) ll less)
+        ∙ up (take half v))
+        (evaluate-scaled k tw (2 * i + 1) (two O) b ∙ ap (scaled O (two O)) (evaluate-interpolate k (2 * i + 1) (drop half v) lu less)
+        ∙ up (drop half v))
         ∙ sym (scaled-append O (two O ⊗ s) (take half v) (drop half v)) ∙ ap (scaled O (two O ⊗ s)) (take-append-drop half v)

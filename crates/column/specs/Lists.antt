@@ -29,14 +29,16 @@ module _ {A : Type 0} where
   zip-drop f (x ∷ a) [] (suc n) e = absurd (omega arith)
   zip-drop f (x ∷ a) (y ∷ b) (suc n) e = zip-drop f a b n (omega arith)
 
-  pub zip-at : (d : A) (f : A → A → A) (a b : List A) (i : ℕ) → length b ≡ length a → i < length a → getD (zipWith f a b) i d ≡ f (getD a i d) (getD b i d)
+  pub zip-at : (d : A) (f : A → A → A) (a b : List A) (i : ℕ) → length b ≡ length a → i < length a
+      → getD (zipWith f a b) i d ≡ f (getD a i d) (getD b i d)
   unfolding zipWith
   zip-at d f [] b i e h = absurd (omega arith)
   zip-at d f (x ∷ a) [] i e h = absurd (omega arith)
   zip-at d f (x ∷ a) (y ∷ b) zero e h = refl
   zip-at d f (x ∷ a) (y ∷ b) (suc i) e h = zip-at d f a b i (omega arith) (omega arith)
 
-  pub zip-zip : (g f f′ : A → A → A) (a b : List A) → zipWith g (zipWith f a b) (zipWith f′ a b) ≡ zipWith (λ (x y : A). g (f x y) (f′ x y)) a b
+  pub zip-zip : (g f f′ : A → A → A) (a b : List A)
+      → zipWith g (zipWith f a b) (zipWith f′ a b) ≡ zipWith (λ (x y : A). g (f x y) (f′ x y)) a b
   unfolding zipWith
   zip-zip g f f′ [] b = refl
   zip-zip g f f′ (x ∷ a) [] = refl

@@ -13,7 +13,8 @@ use Rattle.column.specs.Column.{factor, value, values}
 use Rattle.column.specs.Butterflies.{evaluateBlock, interpolateBlock, scaled, byHalves, onTheWay}
 use Rattle.column.specs.Sums.{halves-equal, combination-halves}
 use Rattle.column.specs.Paths.{evaluate-length, evaluate-at}
-use Rattle.column.specs.Inverse.{Inverses, scaled-length, interpolate-length, scaled-one, scaled-scaled, evaluate-scaled, interpolate-evaluate, evaluate-interpolate}
+use Rattle.column.specs.Inverse.{Inverses, scaled-length, interpolate-length, scaled-one, scaled-scaled}
+use Rattle.column.specs.Inverse.{evaluate-scaled, interpolate-evaluate, evaluate-interpolate}
 
 module _ (O : Ops) where
   open Ops O using (El, zero as 𝟘)
@@ -43,7 +44,8 @@ module _ (O : Ops) (L : Laws O) (n : ℕ) (point : ℕ → O .El × O .El) (tw :
   infixl 70 _⊗_
   pub evaluate-values : (c : List El) → length c ≡ 2 ^ n → evaluateBlock O n tw 0 c ≡ values O n point c
   evaluate-values c e =
-      ext-getD 𝟘 (evaluateBlock O n tw 0 c) (values O n point c) (size ∙ sym (values-length O n point c)) (λ p h. at p (omega (arith, size)))
+      ext-getD 𝟘 (evaluateBlock O n tw 0 c) (values O n point c) (size ∙ sym (values-length O n point c))
+      (λ p h. at p (omega (arith, size)))
     where
       size : length (evaluateBlock O n tw 0 c) ≡ 2 ^ n
       size = evaluate-length O n tw 0 c e
@@ -61,7 +63,8 @@ module _ (O : Ops) (L : Laws O) (n : ℕ) (point : ℕ → O .El × O .El) (tw :
     interpolation v = scaled O s (interpolateBlock O n tv 0 v)
 
     scaled-back : (a : List El) → scaled O s (scaled O (pow O (two O) n) a) ≡ a
-    scaled-back a = scaled-scaled O L s (pow O (two O) n) a ∙ ap (λ (x : El). scaled O x a) (L .mul-comm (pow O (two O) n) s ∙ inverse) ∙ scaled-one O L a
+    scaled-back a = scaled-scaled O L s (pow O (two O) n) a ∙ ap (λ (x : El). scaled O x a) (L .mul-comm (pow O (two O) n) s ∙ inverse)
+        ∙ scaled-one O L a
 
     pub interpolation-values : (c : List El) → length c ≡ 2 ^ n → interpolation (values O n point c) ≡ c
     interpolation-values c e =

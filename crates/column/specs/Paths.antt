@@ -85,10 +85,13 @@ module _ (O : Ops) (L : Laws O) where
       ap₂ (λ (x y : List El). byHalves O n f x ⊕ byHalves O n f y ⊗ f n)
       (zip-take (butterflySum O w) a b half) (zip-drop (butterflySum O w) a b half (eb ∙ sym ea))
       ∙ ap₂ (λ (x y : El). x ⊕ y ⊗ f n)
-      (by-halves-linear n w f (take half a) (take half b) (lower-length n a ea) (lower-length n b eb) ∙ butterfly-sum-is w (byHalves O n f (take half a)) (byHalves O n f (take half b)))
-      (by-halves-linear n w f (drop half a) (drop half b) (upper-length n a ea) (upper-length n b eb) ∙ butterfly-sum-is w (byHalves O n f (drop half a)) (byHalves O n f (drop half b)))
+      (by-halves-linear n w f (take half a) (take half b) (lower-length n a ea) (lower-length n b eb)
+      ∙ butterfly-sum-is w (byHalves O n f (take half a)) (byHalves O n f (take half b)))
+      (by-halves-linear n w f (drop half a) (drop half b) (upper-length n a ea) (upper-length n b eb)
+      ∙ butterfly-sum-is w (byHalves O n f (drop half a)) (byHalves O n f (drop half b)))
       ∙ solve O L
-      (byHalves O n f (take half a) ∷ byHalves O n f (take half b) ∷ byHalves O n f (drop half a) ∷ byHalves O n f (drop half b) ∷ w ∷ f n ∷ [])
+      (byHalves O n f (take half a) ∷ byHalves O n f (take half b)
+      ∷ byHalves O n f (drop half a) ∷ byHalves O n f (drop half b) ∷ w ∷ f n ∷ [])
       ((v0 :+ v1 :* v4) :+ (v2 :+ v3 :* v4) :* v5) ((v0 :+ v2 :* v5) :+ (v1 :+ v3 :* v5) :* v4) tt
       ∙ sym (butterfly-sum-is w (byHalves O (suc n) f a) (byHalves O (suc n) f b))
     where
@@ -129,7 +132,8 @@ module _ (O : Ops) (L : Laws O) where
 
       by : Dec (q < 2 ^ k)
           → ((r : ℕ) → r < 2 ^ k → getD (evaluateBlock O k tw (2 * i) lower) r 𝟘 ≡ byHalves O k (onTheWay O tw (2 * i * 2 ^ k + r)) lower)
-          → ((r : ℕ) → r < 2 ^ k → getD (evaluateBlock O k tw (2 * i + 1) upper) r 𝟘 ≡ byHalves O k (onTheWay O tw ((2 * i + 1) * 2 ^ k + r)) upper)
+          → ((r : ℕ) → r < 2 ^ k → getD (evaluateBlock O k tw (2 * i + 1) upper) r 𝟘
+          ≡ byHalves O k (onTheWay O tw ((2 * i + 1) * 2 ^ k + r)) upper)
           → getD (evaluateBlock O k tw (2 * i) lower ++ evaluateBlock O k tw (2 * i + 1) upper) q 𝟘
           ≡ byHalves O k way (take half c) ⊕ byHalves O k way (drop half c) ⊗ way k
       by (yes l) lower-at upper-at =
@@ -145,6 +149,7 @@ module _ (O : Ops) (L : Laws O) where
           ∙ getD-append-add (evaluateBlock O k tw (2 * i) lower) (evaluateBlock O k tw (2 * i + 1) upper) (q - 2 ^ k) 𝟘
           ∙ upper-at (q - 2 ^ k) (omega (arith, N.two-pow-succ k))
           ∙ ap (λ (t : ℕ). byHalves O k (onTheWay O tw t) upper) (upper-place i k q g)
-          ∙ ap (byHalves O k way) (zip-equal (butterflyDifference O w) (butterflySum O (⊖ w)) (difference-sum w) (take half c) (drop half c))
+          ∙ ap (byHalves O k way) (zip-equal (butterflyDifference O w) (butterflySum O (⊖ w)) (difference-sum w)
+          (take half c) (drop half c))
           ∙ joined (⊖ w)
           ∙ ap (λ (t : El). byHalves O k way (take half c) ⊕ byHalves O k way (drop half c) ⊗ t) (sym (way-upper O tw i k q g h))

@@ -11,7 +11,8 @@ use Rattle.fields.specs.Words.{negP, words31}
 use Rattle.circle.specs.Formulas.{antipode}
 use Rattle.circle.specs.Index.{indexPoint}
 use Rattle.circle.specs.IndexPoints.{index-reduce, index-add, index-quarter, index-add-quarter, index-antipode, index-conjugate}
-use Rattle.orders.specs.BitReverse.{reverseBits, reversed-below, reversed-even, reversed-odd, reversed-first-half, reversed-second-half, reversed-parts}
+use Rattle.orders.specs.BitReverse.{reverseBits, reversed-below, reversed-even, reversed-odd}
+use Rattle.orders.specs.BitReverse.{reversed-first-half, reversed-second-half, reversed-parts}
 use Rattle.orders.specs.Orders.{bitReverseIndex}
 use Rattle.orders.specs.OrderLaws.{index-from-one}
 use Rattle.domains.specs.Listing.{unit, domainIndex}
@@ -43,7 +44,8 @@ module _ (n : ℕ) (lo : 1 ≤ n) (hi : n ≤ 30) where
   pub position-odd : (p : ℕ) → p % 2 ≡ 1 → indexPoint (domainIndex n (bitReverseIndex p n)) ≡ conjugate words31 (halfPoint n (p / 2))
   position-odd p e =
       ap indexPoint (ap (domainIndex n) place ∙ domain-second n lo hi (reverseBits (n - 1) (p / 2)) (reversed-below (n - 1) (p / 2)))
-      ∙ index-conjugate (halfIndex n (p / 2)) (omega (arith, half-bound n lo hi (reverseBits (n - 1) (p / 2)) (reversed-below (n - 1) (p / 2))))
+      ∙ index-conjugate (halfIndex n (p / 2))
+      (omega (arith, half-bound n lo hi (reverseBits (n - 1) (p / 2)) (reversed-below (n - 1) (p / 2))))
     where
       place : bitReverseIndex p n ≡ 2 ^ (n - 1) + reverseBits (n - 1) (p / 2)
       place =
@@ -81,8 +83,10 @@ module _ (n m : ℕ) (lo : 3 ≤ n) (hi : n ≤ 30) where
         unit-half n (omega arith) hi,
         ap (λ (t : ℕ). unit n * t) (two-halves (n - 1) (omega arith) (omega arith)),
         ap (λ (t : ℕ). unit n * t) (two-halves (n - 1 - 1) (omega arith) (omega arith)),
-        ap (λ (t : ℕ). unit n * t) (reversed (4 * m) (2 * m) even ∙ ap (λ (t : ℕ). reverseBits t (2 * m)) fewer ∙ reversed-even (n - 1 - 1 - 1) m),
-        ap (λ (t : ℕ). unit n * t) (reversed (4 * m + 2) (2 * m + 1) odd ∙ ap (λ (t : ℕ). reverseBits t (2 * m + 1)) fewer ∙ reversed-odd (n - 1 - 1 - 1) m),
+        ap (λ (t : ℕ). unit n * t)
+            (reversed (4 * m) (2 * m) even ∙ ap (λ (t : ℕ). reverseBits t (2 * m)) fewer ∙ reversed-even (n - 1 - 1 - 1) m),
+        ap (λ (t : ℕ). unit n * t)
+            (reversed (4 * m + 2) (2 * m + 1) odd ∙ ap (λ (t : ℕ). reverseBits t (2 * m + 1)) fewer ∙ reversed-odd (n - 1 - 1 - 1) m),
       )
     where
       even : 4 * m ≡ 2 * (2 * m)
@@ -119,12 +123,14 @@ module _ (n s k : ℕ) (lo : s + 2 ≤ n) (hi : n ≤ 30) (h : k < 2 ^ s) where
       omega (
         arith,
         distance,
-        ap (λ (t : ℕ). unit n * t) (low-bits (2 ^ s + k) (2 * reverseBits s k + 1) (omega (arith, N.pow-succ' 2 s)) (reversed-second-half s k h)),
+        ap (λ (t : ℕ). unit n * t)
+            (low-bits (2 ^ s + k) (2 * reverseBits s k + 1) (omega (arith, N.pow-succ' 2 s)) (reversed-second-half s k h)),
         ap (λ (t : ℕ). unit n * t) (low-bits k (2 * reverseBits s k) (omega (arith, N.pow-succ' 2 s)) (reversed-first-half s k h)),
       )
     where
       -- a number of s + 1 bits
-      low-bits : (p r : ℕ) → p < 2 ^ suc s → reverseBits (suc s) p ≡ r → reverseBits (n - 1) p ≡ r * 2 ^ (n - 2 - s) + reverseBits (n - 2 - s) 0
+      low-bits : (p r : ℕ) → p < 2 ^ suc s → reverseBits (suc s) p ≡ r
+          → reverseBits (n - 1) p ≡ r * 2 ^ (n - 2 - s) + reverseBits (n - 2 - s) 0
       low-bits p r b e =
           let bits : n - 1 ≡ suc s + (n - 2 - s) = omega arith in
           ap (λ (t : ℕ). reverseBits t p) bits ∙ reversed-parts (suc s) (n - 2 - s) p
@@ -136,7 +142,8 @@ module _ (n s k : ℕ) (lo : s + 2 ≤ n) (hi : n ≤ 30) (h : k < 2 ^ s) where
           ap (λ (t : ℕ). 2 ^ t) bits ∙ W.pow-add 2 2 (30 - n + (n - 2 - s)) ∙ ap (λ (t : ℕ). 4 * t) (W.pow-add 2 (30 - n) (n - 2 - s))
 
   pub half-further : halfPoint n (2 ^ s + k) ≡ plus words31 (halfPoint n k) (indexPoint (2 ^ (30 - s)))
-  half-further = ap indexPoint half-index-further ∙ sym (index-reduce (halfIndex n k + 2 ^ (30 - s))) ∙ index-add (halfIndex n k) (2 ^ (30 - s))
+  half-further =
+      ap indexPoint half-index-further ∙ sym (index-reduce (halfIndex n k + 2 ^ (30 - s))) ∙ index-add (halfIndex n k) (2 ^ (30 - s))
 
 -- the one point of log size 1
 pub half-point-one : (k : ℕ) → halfPoint 1 k ≡ (0, P - 1)

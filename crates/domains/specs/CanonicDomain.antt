@@ -42,8 +42,10 @@ pub record CanonicDomain (n : ℕ) : Type 0 where
   -- iter_indices hands back the same indices in 2^n steps, then says done, and done again
   pub iterator : iterIndicesAnswer (ofHalf (halfOf n)) ≡ T.Value (domainIteratorOf (halfOf n))
   pub steps : (i : ℕ) → i < 2 ^ n
-      → domainNextAnswer (domainSteps i (domainIteratorOf (halfOf n))) ≡ Next (ofIndex (domainIndex n i)) (domainSteps (suc i) (domainIteratorOf (halfOf n)))
-  pub done : (i : ℕ) → 2 ^ n ≤ i → domainNextAnswer (domainSteps i (domainIteratorOf (halfOf n))) ≡ Done (domainSteps (suc i) (domainIteratorOf (halfOf n)))
+      → domainNextAnswer (domainSteps i (domainIteratorOf (halfOf n)))
+      ≡ Next (ofIndex (domainIndex n i)) (domainSteps (suc i) (domainIteratorOf (halfOf n)))
+  pub done : (i : ℕ) → 2 ^ n ≤ i
+      → domainNextAnswer (domainSteps i (domainIteratorOf (halfOf n))) ≡ Done (domainSteps (suc i) (domainIteratorOf (halfOf n)))
   -- the points are all different, and exactly those that document 01 names
   pub pointSet : PointSet n
 
@@ -91,7 +93,8 @@ module _ (n : ℕ) (lo : 1 ≤ n) (hi : n ≤ 30) where
   unfolding halfOf cosetOf
   index-at-domain i h = elim (decLt i (2 ^ (n - 1))) [
     | yes l ↦ D.index-first (halfOf n) i l ∙ first-index i l
-    | no g ↦ D.index-second (halfOf n) i (omega arith) ∙ second-index (i - 2 ^ (n - 1)) (omega (arith, two-halves n lo hi)) ∙ ap (domainIndex n) (half-plus-rest g)
+    | no g ↦ D.index-second (halfOf n) i (omega arith) ∙ second-index (i - 2 ^ (n - 1)) (omega (arith, two-halves n lo hi))
+        ∙ ap (domainIndex n) (half-plus-rest g)
   ]
     where
       half-plus-rest : ¬ (i < 2 ^ (n - 1)) → 2 ^ (n - 1) + (i - 2 ^ (n - 1)) ≡ i
@@ -114,11 +117,14 @@ module _ (n : ℕ) (lo : 1 ≤ n) (hi : n ≤ 30) where
       ∙ conjugate-index (halfOf n) i half-fits ∙ second-index i h
 
   all-steps : (i : ℕ) → i < 2 ^ n
-      → domainNextAnswer (domainSteps i (domainIteratorOf (halfOf n))) ≡ Next (ofIndex (domainIndex n i)) (domainSteps (suc i) (domainIteratorOf (halfOf n)))
+      → domainNextAnswer (domainSteps i (domainIteratorOf (halfOf n)))
+      ≡ Next (ofIndex (domainIndex n i)) (domainSteps (suc i) (domainIteratorOf (halfOf n)))
   unfolding halfOf cosetOf
   all-steps i h = elim (decLt i (2 ^ (n - 1))) [
-    | yes l ↦ half-walk .first-half i l ∙ ap (λ (t : ℕ). Next (ofIndex t) (domainSteps (suc i) (domainIteratorOf (halfOf n)))) (walked-first i l)
-    | no g ↦ subst (λ (t : ℕ). domainNextAnswer (domainSteps t (domainIteratorOf (halfOf n))) ≡ Next (ofIndex (domainIndex n t)) (domainSteps (suc t) (domainIteratorOf (halfOf n)))) (half-plus-rest g)
+    | yes l ↦ half-walk .first-half i l
+        ∙ ap (λ (t : ℕ). Next (ofIndex t) (domainSteps (suc i) (domainIteratorOf (halfOf n)))) (walked-first i l)
+    | no g ↦ subst (λ (t : ℕ). domainNextAnswer (domainSteps t (domainIteratorOf (halfOf n)))
+        ≡ Next (ofIndex (domainIndex n t)) (domainSteps (suc t) (domainIteratorOf (halfOf n)))) (half-plus-rest g)
         (later (i - 2 ^ (n - 1)) (omega (arith, two-halves n lo hi)))
   ]
     where
@@ -127,9 +133,11 @@ module _ (n : ℕ) (lo : 1 ≤ n) (hi : n ≤ 30) where
 
       later : (j : ℕ) → j < 2 ^ (n - 1) → domainNextAnswer (domainSteps (2 ^ (n - 1) + j) (domainIteratorOf (halfOf n)))
           ≡ Next (ofIndex (domainIndex n (2 ^ (n - 1) + j))) (domainSteps (suc (2 ^ (n - 1) + j)) (domainIteratorOf (halfOf n)))
-      later j l = half-walk .second-half j l ∙ ap (λ (t : ℕ). Next (ofIndex t) (domainSteps (suc (2 ^ (n - 1) + j)) (domainIteratorOf (halfOf n)))) (walked-second j l)
+      later j l = half-walk .second-half j l
+          ∙ ap (λ (t : ℕ). Next (ofIndex t) (domainSteps (suc (2 ^ (n - 1) + j)) (domainIteratorOf (halfOf n)))) (walked-second j l)
 
-  all-done : (i : ℕ) → 2 ^ n ≤ i → domainNextAnswer (domainSteps i (domainIteratorOf (halfOf n))) ≡ Done (domainSteps (suc i) (domainIteratorOf (halfOf n)))
+  all-done : (i : ℕ) → 2 ^ n ≤ i
+      → domainNextAnswer (domainSteps i (domainIteratorOf (halfOf n))) ≡ Done (domainSteps (suc i) (domainIteratorOf (halfOf n)))
   unfolding halfOf cosetOf
   all-done i h = half-walk .done i (omega (arith, two-halves n lo hi))
 
@@ -145,7 +153,8 @@ module _ (n : ℕ) (lo : 1 ≤ n) (hi : n ≤ 30) where
 
   coset-index : (k : ℕ) → C.indexAtAnswer (canonicOf n) k ≡ I.Value (ofIndex (cosetIndex n k))
   unfolding C.indexAtAnswer canonicOf cosetOf indexAt
-  coset-index k = hold-passes (checkCanonic (canonicOf n)) I.Refused _ canonic-passes ∙ ap (λ (t : ℕ). I.Value (ofIndex (t % 2 ^ 31))) initial-plus-steps
+  coset-index k = hold-passes (checkCanonic (canonicOf n)) I.Refused _ canonic-passes
+      ∙ ap (λ (t : ℕ). I.Value (ofIndex (t % 2 ^ 31))) initial-plus-steps
     where
       initial-plus-steps : 2 ^ (31 - (n + 1)) + 2 ^ (31 - n) * k ≡ unit n * (2 * k + 1)
       initial-plus-steps =

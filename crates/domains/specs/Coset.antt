@@ -31,7 +31,13 @@ use Rattle.domains.specs.Record.{check, checkTwo, checkWithIndex}
 
 -- 2^n points from index k on
 unfoldable pub cosetOf : ℕ → ℕ → Coset
-cosetOf k n = record { «initial_index» = ofIndex k; initial = ofPoint (indexPoint k); «step_size» = ofIndex (subgroupGen n); step = ofPoint (indexPoint (subgroupGen n)); «log_size» = n }
+cosetOf k n = record {
+  «initial_index» = ofIndex k;
+  initial = ofPoint (indexPoint k);
+  «step_size» = ofIndex (subgroupGen n);
+  step = ofPoint (indexPoint (subgroupGen n));
+  «log_size» = n;
+}
 
 unfoldable pub newAnswer : CirclePointIndex → ℕ → CosetAnswer
 newAnswer k n = checked (need (leb n 31) LogSize ++ inRange k) Refused (Value (cosetOf (k .0) n))

@@ -117,5 +117,6 @@ conjugate-index c i f =
     turns : ℕ → ℕ
     turns j = (j + negIndex j) / 2 ^ 31
 
-    opposite-indices-sum : k + negIndex k ≡ 2 ^ 31 * turns k → s + negIndex s ≡ 2 ^ 31 * turns s → k + s * i + (negIndex k + negIndex s * i) ≡ 2 ^ 31 * (turns k + turns s * i)
+    opposite-indices-sum : k + negIndex k ≡ 2 ^ 31 * turns k → s + negIndex s ≡ 2 ^ 31 * turns s
+        → k + s * i + (negIndex k + negIndex s * i) ≡ 2 ^ 31 * (turns k + turns s * i)
     opposite-indices-sum e f = omega (arith, ap (λ (t : ℕ). t * i) f)

@@ -29,8 +29,10 @@ use Rattle.domains.specs.BitReversed.{halfIndex, halfPoint, half-element
 -- each point of the domain of log size n is the double of two of log size n + 1, for n from 1 to 29
 pub record DomainDoubled (n : ℕ) : Type 0 where
   pub first-quarter : (i : ℕ) → i < 2 ^ (n - 1) → double words31 (indexPoint (domainIndex (suc n) i)) ≡ indexPoint (domainIndex n i)
-  pub second-quarter : (i : ℕ) → i < 2 ^ (n - 1) → double words31 (indexPoint (domainIndex (suc n) (2 ^ (n - 1) + i))) ≡ indexPoint (domainIndex n i)
-  pub third-quarter : (i : ℕ) → i < 2 ^ (n - 1) → double words31 (indexPoint (domainIndex (suc n) (2 ^ n + i))) ≡ indexPoint (domainIndex n (2 ^ (n - 1) + i))
+  pub second-quarter : (i : ℕ) → i < 2 ^ (n - 1)
+      → double words31 (indexPoint (domainIndex (suc n) (2 ^ (n - 1) + i))) ≡ indexPoint (domainIndex n i)
+  pub third-quarter : (i : ℕ) → i < 2 ^ (n - 1)
+      → double words31 (indexPoint (domainIndex (suc n) (2 ^ n + i))) ≡ indexPoint (domainIndex n (2 ^ (n - 1) + i))
   pub fourth-quarter : (i : ℕ) → i < 2 ^ (n - 1)
       → double words31 (indexPoint (domainIndex (suc n) (2 ^ n + (2 ^ (n - 1) + i)))) ≡ indexPoint (domainIndex n (2 ^ (n - 1) + i))
 
@@ -54,7 +56,8 @@ module _ (n : ℕ) (lo : 1 ≤ n) (hi : n ≤ 29) where
       → double words31 (indexPoint (domainIndex (suc n) j)) ≡ indexPoint (domainIndex n i)
   first-half-doubles c i j h b e =
       index-double (domainIndex (suc n) j) (domainIndex n i) c
-      (ap (λ (t : ℕ). 2 * t) (domain-first (suc n) (omega arith) (omega arith) j (rw suc-minus-one b) ∙ ap (λ (t : ℕ). unit (suc n) + 4 * unit (suc n) * t) e)
+      (ap (λ (t : ℕ). 2 * t) (domain-first (suc n) (omega arith) (omega arith) j (rw suc-minus-one b)
+      ∙ ap (λ (t : ℕ). unit (suc n) + 4 * unit (suc n) * t) e)
       ∙ twice-index c i ∙ ap (λ (t : ℕ). t + c * 2 ^ 31) (sym (domain-first n lo (omega arith) i h)))
 
   second-half-doubles : (c i j : ℕ) → c ≤ 1 → i < 2 ^ (n - 1) → j < 2 ^ n → j ≡ c * 2 ^ (n - 1) + i
@@ -101,7 +104,8 @@ module _ (n : ℕ) (lo : 1 ≤ n) (hi : n ≤ 29) where
   pub half-double-y : (k : ℕ) → mulP 2 (mulP (halfPoint (suc n) k .0) (halfPoint (suc n) k .1)) ≡ halfPoint n (k / 2) .1
   half-double-y k =
       solveWords words31 m31 m31-representation (halfPoint (suc n) k .0 ∷ halfPoint (suc n) k .1 ∷ [])
-      (two exprs :* (v0 :* v1)) (plus exprs (v0, v1) (v0, v1) .1) (m31-representation .mul-reduced _ _) (m31-representation .add-reduced _ _) tt
+      (two exprs :* (v0 :* v1)) (plus exprs (v0, v1) (v0, v1) .1) (m31-representation .mul-reduced _ _)
+      (m31-representation .add-reduced _ _) tt
       ∙ ap (λ (p : ℕ × ℕ). p .1) (half-double k)
 
 -- at log size 2, where 2x² = 1 and 2xy = -1, y is -x
@@ -119,11 +123,13 @@ half-two k =
     y = halfPoint 2 k .1
 
     x-zero : doubleX m31 (element x) ≡ m31 .zero
-    x-zero = sym (to-doubleX words31 m31 element element-homomorphism x) ∙ ap element (half-double-x 1 (omega arith) (omega arith) k ∙ ap (λ (p : ℕ × ℕ). p .0) (half-point-one (k / 2)))
+    x-zero = sym (to-doubleX words31 m31 element element-homomorphism x)
+        ∙ ap element (half-double-x 1 (omega arith) (omega arith) k ∙ ap (λ (p : ℕ × ℕ). p .0) (half-point-one (k / 2)))
 
     xy-minus : m31 .mul (two m31) (m31 .mul (element x) (element y)) ≡ m31 .neg (m31 .one)
     xy-minus =
-        ap₂ (m31 .mul) (sym (element-homomorphism .to-add 1 1)) (sym (element-homomorphism .to-mul x y)) ∙ sym (element-homomorphism .to-mul 2 (mulP x y))
+        ap₂ (m31 .mul) (sym (element-homomorphism .to-add 1 1)) (sym (element-homomorphism .to-mul x y))
+        ∙ sym (element-homomorphism .to-mul 2 (mulP x y))
         ∙ ap element (half-double-y 1 (omega arith) (omega arith) k ∙ ap (λ (p : ℕ × ℕ). p .1) (half-point-one (k / 2))) ∙ element-minus-one
 
 -- ---- y = 0 holds at no point of a domain, and x = 0 only at those of log size 1
@@ -154,7 +160,9 @@ module _ (n : ℕ) (lo : 1 ≤ n) (hi : n ≤ 30) where
   half-below k = omega (arith, reversed-below (n - 1) k, two-halves n lo hi)
 
   pub half-y-nonzero : (k : ℕ) → ¬ (halfPoint n k .1 ≡ 0)
-  half-y-nonzero k e = domain-y-nonzero (reverseBits (n - 1) k) (half-below k) (ap (λ (t : ℕ). indexPoint t .1) (half-element n lo hi k) ∙ e)
+  half-y-nonzero k e =
+      domain-y-nonzero (reverseBits (n - 1) k) (half-below k) (ap (λ (t : ℕ). indexPoint t .1) (half-element n lo hi k) ∙ e)
 
   pub half-x-nonzero : 2 ≤ n → (k : ℕ) → ¬ (halfPoint n k .0 ≡ 0)
-  half-x-nonzero more k e = domain-x-nonzero more (reverseBits (n - 1) k) (half-below k) (ap (λ (t : ℕ). indexPoint t .0) (half-element n lo hi k) ∙ e)
+  half-x-nonzero more k e =
+      domain-x-nonzero more (reverseBits (n - 1) k) (half-below k) (ap (λ (t : ℕ). indexPoint t .0) (half-element n lo hi k) ∙ e)

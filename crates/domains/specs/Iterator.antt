@@ -39,5 +39,6 @@ unfoldable pub domainNextAnswer : CircleDomainIndexIterator → CircleDomainStep
 domainNextAnswer it =
     checked (checkBoth it) D.Refused
     (cond (eqb (it .first .remaining) 0)
-    (cond (eqb (it .second .remaining) 0) (D.Done it) (D.Next (it .second .cur) (record { first = it .first; second = advanced (it .second) })))
+    (cond (eqb (it .second .remaining) 0) (D.Done it)
+    (D.Next (it .second .cur) (record { first = it .first; second = advanced (it .second) })))
     (D.Next (it .first .cur) (record { first = advanced (it .first); second = it .second })))

@@ -54,17 +54,20 @@ walked-index c h (suc k) = refl
 
 -- what the iterator of a coset hands back; `coset-walk` proves it for every coset that fits
 pub record CosetWalk (c : Coset) : Type 0 where
-  pub index : (k : ℕ) → k < 2 ^ c .«log_size» → nextAnswer (steps k (iteratorOf c)) ≡ Next (ofIndex (walkedIndex c k)) (steps (suc k) (iteratorOf c))
+  pub index : (k : ℕ) → k < 2 ^ c .«log_size»
+      → nextAnswer (steps k (iteratorOf c)) ≡ Next (ofIndex (walkedIndex c k)) (steps (suc k) (iteratorOf c))
   pub done : (k : ℕ) → 2 ^ c .«log_size» ≤ k → nextAnswer (steps k (iteratorOf c)) ≡ Done (steps (suc k) (iteratorOf c))
 
 -- what the iterator of a domain hands back; `domain-walk` proves it for every half coset that fits
 pub record DomainWalk (c : Coset) : Type 0 where
   pub first-half : (k : ℕ) → k < 2 ^ c .«log_size»
-      → domainNextAnswer (domainSteps k (domainIteratorOf c)) ≡ D.Next (ofIndex (walkedIndex c k)) (domainSteps (suc k) (domainIteratorOf c))
+      → domainNextAnswer (domainSteps k (domainIteratorOf c))
+      ≡ D.Next (ofIndex (walkedIndex c k)) (domainSteps (suc k) (domainIteratorOf c))
   pub second-half : (k : ℕ) → k < 2 ^ c .«log_size»
       → domainNextAnswer (domainSteps (2 ^ c .«log_size» + k) (domainIteratorOf c))
       ≡ D.Next (ofIndex (walkedIndex (conjugated c) k)) (domainSteps (suc (2 ^ c .«log_size» + k)) (domainIteratorOf c))
-  pub done : (k : ℕ) → 2 * 2 ^ c .«log_size» ≤ k → domainNextAnswer (domainSteps k (domainIteratorOf c)) ≡ D.Done (domainSteps (suc k) (domainIteratorOf c))
+  pub done : (k : ℕ) → 2 * 2 ^ c .«log_size» ≤ k
+      → domainNextAnswer (domainSteps k (domainIteratorOf c)) ≡ D.Done (domainSteps (suc k) (domainIteratorOf c))
 
 -- ---- a walk through known states
 
@@ -77,7 +80,8 @@ module _ {S : Type 0} (f : S → S) (at : ℕ → S) (size : ℕ) (next : (k : �
   iterate-ended : f (at size) ≡ at size → (k : ℕ) → iterate (size + k) f (at 0) ≡ at size
   unfolding iterate
   iterate-ended e zero = ap (λ (t : ℕ). iterate t f (at 0)) (N.add-zero size) ∙ iterate-walked size (omega arith)
-  iterate-ended e (suc k) = ap (λ (t : ℕ). iterate t f (at 0)) (N.add-suc size k) ∙ iterate-suc (size + k) f (at 0) ∙ ap f (iterate-ended e k) ∙ e
+  iterate-ended e (suc k) =
+      ap (λ (t : ℕ). iterate t f (at 0)) (N.add-suc size k) ∙ iterate-suc (size + k) f (at 0) ∙ ap f (iterate-ended e k) ∙ e
 
 -- ---- the coset's iterator
 
@@ -97,7 +101,8 @@ module _ (c : Coset) (f : Fits c) where
 
   iterator-start : iteratorOf c ≡ stateAt c 0
   unfolding stateAt walkedIndex iteratorOf
-  iterator-start = λ i. record { cur = ofIndex (c .«initial_index» .0); step = c .«step_size»; remaining = sym (N.sub-zero (2 ^ c .«log_size»)) i }
+  iterator-start =
+      λ i. record { cur = ofIndex (c .«initial_index» .0); step = c .«step_size»; remaining = sym (N.sub-zero (2 ^ c .«log_size»)) i }
 
   state-holds : (k : ℕ) → Hold (check (stateAt c k))
   unfolding check stateAt
@@ -142,16 +147,19 @@ module _ (c : Coset) (f : Fits c) where
   state-stays = ap (after (stateAt c (2 ^ c .«log_size»))) state-done
 
   steps-state : (k : ℕ) → k ≤ 2 ^ c .«log_size» → steps k (iteratorOf c) ≡ stateAt c k
-  steps-state k h = ap (steps k) iterator-start ∙ iterate-walked (λ it. after it (nextAnswer it)) (stateAt c) (2 ^ c .«log_size») state-after k h
+  steps-state k h =
+      ap (steps k) iterator-start ∙ iterate-walked (λ it. after it (nextAnswer it)) (stateAt c) (2 ^ c .«log_size») state-after k h
 
   steps-ended : (k : ℕ) → 2 ^ c .«log_size» ≤ k → steps k (iteratorOf c) ≡ stateAt c (2 ^ c .«log_size»)
   steps-ended k h =
       let more : k ≡ 2 ^ c .«log_size» + (k - 2 ^ c .«log_size») = omega arith in
-      ap₂ steps more iterator-start ∙ iterate-ended (λ it. after it (nextAnswer it)) (stateAt c) (2 ^ c .«log_size») state-after state-stays (k - 2 ^ c .«log_size»)
+      ap₂ steps more iterator-start
+      ∙ iterate-ended (λ it. after it (nextAnswer it)) (stateAt c) (2 ^ c .«log_size») state-after state-stays (k - 2 ^ c .«log_size»)
 
   pub coset-walk : CosetWalk c
   coset-walk = record {
-    index = λ k h. ap nextAnswer (steps-state k (omega arith)) ∙ state-step k h ∙ ap (Next (ofIndex (walkedIndex c k))) (sym (steps-state (suc k) h));
+    index = λ k h. ap nextAnswer (steps-state k (omega arith)) ∙ state-step k h
+        ∙ ap (Next (ofIndex (walkedIndex c k))) (sym (steps-state (suc k) h));
     done = λ k h. ap nextAnswer (steps-ended k h) ∙ state-done ∙ ap Done (sym (steps-ended (suc k) (omega arith)));
   }
 
@@ -184,7 +192,8 @@ module _ (c : Coset) (f : Fits c) where
       hold-passes (checkBoth (firstAt k)) D.Refused _ (both-hold k 0)
       ∙ rw (some-left c f k h) (λ i. D.Next (state-index c k i) (pair (state-next c f k h i) (stateAt (conjugated c) 0)))
 
-  second-step : (k : ℕ) → k < 2 ^ c .«log_size» → domainNextAnswer (secondAt k) ≡ D.Next (ofIndex (walkedIndex (conjugated c) k)) (secondAt (suc k))
+  second-step : (k : ℕ) → k < 2 ^ c .«log_size»
+      → domainNextAnswer (secondAt k) ≡ D.Next (ofIndex (walkedIndex (conjugated c) k)) (secondAt (suc k))
   unfolding domainNextAnswer conjugated walkedIndex
   second-step k h =
       hold-passes (checkBoth (secondAt k)) D.Refused _ (both-hold (2 ^ c .«log_size») k)
@@ -218,7 +227,8 @@ module _ (c : Coset) (f : Fits c) where
 
   -- the first half is walked through
   steps-past-half : (k : ℕ) → domainSteps (2 ^ c .«log_size» + k) (domainIteratorOf c) ≡ domainSteps k (secondAt 0)
-  steps-past-half k = iterate-add (2 ^ c .«log_size») k move (domainIteratorOf c) ∙ ap (domainSteps k) (first-steps (2 ^ c .«log_size») (omega arith))
+  steps-past-half k =
+      iterate-add (2 ^ c .«log_size») k move (domainIteratorOf c) ∙ ap (domainSteps k) (first-steps (2 ^ c .«log_size») (omega arith))
 
   second-steps : (k : ℕ) → k ≤ 2 ^ c .«log_size» → domainSteps (2 ^ c .«log_size» + k) (domainIteratorOf c) ≡ secondAt k
   second-steps k h = steps-past-half k ∙ iterate-walked move secondAt (2 ^ c .«log_size») second-move k h
@@ -231,7 +241,8 @@ module _ (c : Coset) (f : Fits c) where
 
   pub domain-walk : DomainWalk c
   domain-walk = record {
-    first-half = λ k h. ap domainNextAnswer (first-steps k (omega arith)) ∙ first-step k h ∙ ap (D.Next (ofIndex (walkedIndex c k))) (sym (first-steps (suc k) h));
+    first-half = λ k h. ap domainNextAnswer (first-steps k (omega arith)) ∙ first-step k h
+        ∙ ap (D.Next (ofIndex (walkedIndex c k))) (sym (first-steps (suc k) h));
     second-half = λ k h. ap domainNextAnswer (second-steps k (omega arith)) ∙ second-step k h
         ∙ ap (D.Next (ofIndex (walkedIndex (conjugated c) k)))
         (sym (ap (λ (t : ℕ). domainSteps t (domainIteratorOf c)) (sym (N.add-suc (2 ^ c .«log_size») k)) ∙ second-steps (suc k) h));

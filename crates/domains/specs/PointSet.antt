@@ -39,7 +39,8 @@ pub record PointSet (n : ℕ) : Type 0 where
   pub apart : (i j : ℕ) → i < 2 ^ n → j < 2 ^ n → indexPoint (domainIndex n i) ≡ indexPoint (domainIndex n j) → i ≡ j
   -- (x, y) is one of them exactly where x² + y² = 1 and x, put n - 1 times through 2x² - 1, gives 0, modulo P
   pub exactly : (x y : ℕ) → x < P → y < P
-      → ((i : ℕ) × (i < 2 ^ n) × ((x, y) ≡ indexPoint (domainIndex n i))) ↔ ((squares words31 (x, y) ≡ 1) × (iterate (n - 1) (doubleX words31) x ≡ 0))
+      → ((i : ℕ) × (i < 2 ^ n) × ((x, y) ≡ indexPoint (domainIndex n i)))
+      ↔ ((squares words31 (x, y) ≡ 1) × (iterate (n - 1) (doubleX words31) x ≡ 0))
 
 -- ---- proof: what stands at each place of the lists
 
@@ -89,7 +90,8 @@ module _ (n : ℕ) (lo : 1 ≤ n) (hi : n ≤ 30) where
 
   -- the coset's k-th index stands in the domain where the order map says
   pub domain-coset : (k : ℕ) → k < 2 ^ n → domainIndex n (toDomain (2 ^ n) k) ≡ cosetIndex n k
-  domain-coset k h = by-parity (λ k. k < 2 ^ n → domainIndex n (toDomain (2 ^ n) k) ≡ unit n * (2 * k + 1)) even odd k h ∙ sym (coset-index k h)
+  domain-coset k h =
+      by-parity (λ k. k < 2 ^ n → domainIndex n (toDomain (2 ^ n) k) ≡ unit n * (2 * k + 1)) even odd k h ∙ sym (coset-index k h)
     where
       even : (x : ℕ) → 2 * x < 2 ^ n → domainIndex n (toDomain (2 ^ n) (2 * x)) ≡ unit n * (2 * (2 * x) + 1)
       even x h = ap (domainIndex n) (even-to-domain (2 ^ n) x) ∙ domain-first x (omega (arith, two-halves)) ∙ omega arith
@@ -109,7 +111,8 @@ module _ (n : ℕ) (lo : 1 ≤ n) (hi : n ≤ 30) where
   pub domain-at : (i : ℕ) → i < 2 ^ n → domainIndex n i ≡ unit n * (2 * toCoset (2 ^ n) i + 1)
   domain-at i h =
       let below : toCoset (2 ^ n) i < 2 ^ n = to-coset-below (2 ^ n) even-size i h in
-      ap (domainIndex n) (sym (to-domain-to-coset (2 ^ n) even-size i h)) ∙ domain-coset (toCoset (2 ^ n) i) below ∙ coset-index (toCoset (2 ^ n) i) below
+      ap (domainIndex n) (sym (to-domain-to-coset (2 ^ n) even-size i h)) ∙ domain-coset (toCoset (2 ^ n) i) below
+      ∙ coset-index (toCoset (2 ^ n) i) below
 
   pub domain-bound : (i : ℕ) → i < 2 ^ n → (0 < domainIndex n i) × (domainIndex n i < 2 ^ 31)
   domain-bound i h = rw (domain-at i h) (odd-bound (toCoset (2 ^ n) i) (to-coset-below (2 ^ n) even-size i h))
@@ -119,7 +122,8 @@ module _ (n : ℕ) (lo : 1 ≤ n) (hi : n ≤ 30) where
 module _ (n : ℕ) (lo : 1 ≤ n) (hi : n ≤ 30) where
   points-apart : (i j : ℕ) → i < 2 ^ n → j < 2 ^ n → indexPoint (domainIndex n i) ≡ indexPoint (domainIndex n j) → i ≡ j
   points-apart i j h k e =
-      sym (to-domain-to-coset (2 ^ n) (even-size n lo hi) i h) ∙ ap (toDomain (2 ^ n)) places ∙ to-domain-to-coset (2 ^ n) (even-size n lo hi) j k
+      sym (to-domain-to-coset (2 ^ n) (even-size n lo hi) i h) ∙ ap (toDomain (2 ^ n)) places
+      ∙ to-domain-to-coset (2 ^ n) (even-size n lo hi) j k
     where
       indices : domainIndex n i ≡ domainIndex n j
       indices =
@@ -139,7 +143,8 @@ module _ (n : ℕ) (lo : 1 ≤ n) (hi : n ≤ 30) where
 
   -- 2^n steps along the coset lead round the circle
   coset-index-mod : (k : ℕ) → cosetIndex n k ≡ cosetIndex n (k % 2 ^ n)
-  coset-index-mod k = ap (λ (t : ℕ). t % 2 ^ 31) (index-past-size (k / 2 ^ n) (k % 2 ^ n) (N.div-add-mod k (2 ^ n))) ∙ N.add-mul-mod-self-right (unit n * (2 * (k % 2 ^ n) + 1)) (k / 2 ^ n) (2 ^ 31)
+  coset-index-mod k = ap (λ (t : ℕ). t % 2 ^ 31) (index-past-size (k / 2 ^ n) (k % 2 ^ n) (N.div-add-mod k (2 ^ n)))
+      ∙ N.add-mul-mod-self-right (unit n * (2 * (k % 2 ^ n) + 1)) (k / 2 ^ n) (2 ^ 31)
     where
       unit-times-size : unit n * 2 ^ n ≡ 2 ^ 30
       unit-times-size = omega (arith, ap (λ (t : ℕ). unit n * t) (two-halves n lo hi), unit-half n lo hi)
@@ -171,7 +176,8 @@ module _ (n : ℕ) (lo : 1 ≤ n) (hi : n ≤ 30) where
     InWords = (squares words31 (x, y) ≡ 1) × (iterate (n - 1) (doubleX words31) x ≡ 0)
 
     to-field : InWords → InField
-    to-field (on, e) = (sym (to-squares words31 m31 element element-homomorphism (x, y)) ∙ ap element on, sym (to-doubled-x (n - 1) x) ∙ ap element e)
+    to-field (on, e) =
+        (sym (to-squares words31 m31 element element-homomorphism (x, y)) ∙ ap element on, sym (to-doubled-x (n - 1) x) ∙ ap element e)
 
     to-words : InField → InWords
     to-words (on, e) = (

@@ -1,6 +1,7 @@
 // Canonic cosets G_2n + <G_n> (stwo's CanonicCoset).
 ghost use mathlib.Core.Path.{_≡_};
-ghost use Rattle.domains.specs.Canonic.{tryNewAnswer, cosetAnswer, halfCosetAnswer, circleDomainAnswer, logSizeAnswer, sizeAnswer, initialIndexAnswer, stepSizeAnswer, stepAnswer, indexAtAnswer, atAnswer};
+ghost use Rattle.domains.specs.Canonic.{tryNewAnswer, cosetAnswer, halfCosetAnswer, circleDomainAnswer, logSizeAnswer};
+ghost use Rattle.domains.specs.Canonic.{sizeAnswer, initialIndexAnswer, stepSizeAnswer, stepAnswer, indexAtAnswer, atAnswer};
 use crate::coset::Coset;
 use crate::coset::CosetAnswer;
 use crate::coset::inner;

@@ -1,7 +1,9 @@
 // Cosets initial + <step> (stwo's Coset). A record whose points disagree with its indices is accepted: each answer uses
 // the field that the Rust uses.
 ghost use mathlib.Core.Path.{_≡_};
-ghost use Rattle.domains.specs.Coset.{newAnswer, subgroupAnswer, oddsAnswer, halfOddsAnswer, sizeAnswer, logSizeAnswer, iterIndicesAnswer, doubleAnswer, repeatedDoubleAnswer, isDoublingOfAnswer, initialAnswer, indexAtAnswer, atAnswer, shiftAnswer, conjugateAnswer};
+ghost use Rattle.domains.specs.Coset.{newAnswer, subgroupAnswer, oddsAnswer, halfOddsAnswer, sizeAnswer, logSizeAnswer};
+ghost use Rattle.domains.specs.Coset.{iterIndicesAnswer, doubleAnswer, repeatedDoubleAnswer, isDoublingOfAnswer};
+ghost use Rattle.domains.specs.Coset.{initialAnswer, indexAtAnswer, atAnswer, shiftAnswer, conjugateAnswer};
 use crate::iterator::CosetIteratorAnswer;
 use crate::record::check;
 use crate::record::check_two;

@@ -5,7 +5,8 @@ ghost use mathlib.Core.List.{_++_};
 ghost use lib.ListN.{length, drop};
 ghost use Rattle.algebra.specs.Listing.{listing};
 ghost use Rattle.domains.specs.Record.{Fits};
-ghost use Rattle.domains.specs.Domain.{newAnswer, iterIndicesAnswer, sizeAnswer, logSizeAnswer, domainIndexAt, atAnswer, indexAtAnswer, isCanonicAnswer, splitAnswer, splitExit, shiftAnswer};
+ghost use Rattle.domains.specs.Domain.{newAnswer, iterIndicesAnswer, sizeAnswer, logSizeAnswer, domainIndexAt};
+ghost use Rattle.domains.specs.Domain.{atAnswer, indexAtAnswer, isCanonicAnswer, splitAnswer, splitExit, shiftAnswer};
 use crate::coset::Coset;
 use crate::coset::inner;
 use crate::iterator::CircleDomainIndexIterator;
@@ -140,7 +141,9 @@ impl CircleDomain {
 
     // A domain of fewer points, and the shifts that take it to the parts of this one.
     pub fn split(self, log_parts: u32, shifts: &mut [u32]) -> CircleDomainAnswer
-        ensures { λ r. ⌜ (r ≡ splitAnswer self «log_parts» (length (now (shifts .entry)))) × (now (shifts .exit) ≡ splitExit (splitAnswer self «log_parts» (length (now (shifts .entry)))) self «log_parts» (now (shifts .entry))) ⌝ }
+        ensures { λ r. ⌜ (r ≡ splitAnswer self «log_parts» (length (now (shifts .entry))))
+            × (now (shifts .exit) ≡ splitExit (splitAnswer self «log_parts» (length (now (shifts .entry)))) self «log_parts»
+            (now (shifts .entry))) ⌝ }
     {
         let half = self.half_coset;
         let record = check(half);

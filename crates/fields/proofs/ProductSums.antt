@@ -34,7 +34,8 @@ element-double x e = ap element (N.two-mul x) ∙ element-add x x e e
 
 -- k P less z
 element-minus : (k z : ℕ) {s : Z P} → z ≤ k * P → element z ≡ s → element (k * P - z) ≡ m31 .neg s
-element-minus k z {s} l f = neg-unique m31 m31-laws s (element (k * P - z)) (ap (λ t. m31 .add t (element (k * P - z))) (sym f) ∙ adds-to-zero)
+element-minus k z {s} l f =
+    neg-unique m31 m31-laws s (element (k * P - z)) (ap (λ t. m31 .add t (element (k * P - z))) (sym f) ∙ adds-to-zero)
   where
     zero-mod : k * P % P ≡ 0
     zero-mod = omega arith
@@ -50,12 +51,14 @@ below x y = N.mod-lt (x + y) P-pos
 abbrev byComplex : Expr × Expr
 byComplex = complex exprs .mul (v0, v1) (v2, v3)
 
-pub complex-product : (a b : ℕ × ℕ) {ac bd ad bc re im : ℕ} → ac ≡ a .0 * b .0 → bd ≡ a .1 * b .1 → ad ≡ a .0 * b .1 → bc ≡ a .1 * b .0 → bd < P * P
+pub complex-product : (a b : ℕ × ℕ) {ac bd ad bc re im : ℕ} → ac ≡ a .0 * b .0 → bd ≡ a .1 * b .1 → ad ≡ a .0 * b .1
+    → bc ≡ a .1 * b .0 → bd < P * P
     → re ≡ (ac + (P * P - bd)) % P → im ≡ (ad + bc) % P → (re, im) ≡ complexWords .mul a b
 complex-product a b {ac} {bd} {ad} {bc} e f g h l k m =
     pair-path
     (k ∙ mod-P-is-value (a .0 ∷ a .1 ∷ b .0 ∷ b .1 ∷ []) (v0 :* v2 :+ :- (v1 :* v3)) (byComplex .0) (ac + (P * P - bd))
-    (element-add ac (P * P - bd) (element-mul ac (a .0) (b .0) e) (element-minus P bd (omega arith) (element-mul bd (a .1) (b .1) f))) (below _ _) tt)
+    (element-add ac (P * P - bd) (element-mul ac (a .0) (b .0) e) (element-minus P bd (omega arith) (element-mul bd (a .1) (b .1) f)))
+    (below _ _) tt)
     (m ∙ mod-P-is-value (a .0 ∷ a .1 ∷ b .0 ∷ b .1 ∷ []) (v0 :* v3 :+ v1 :* v2) (byComplex .1) (ad + bc)
     (element-add ad bc (element-mul ad (a .0) (b .1) g) (element-mul bc (a .1) (b .0) h)) (below _ _) tt)
 
@@ -87,11 +90,13 @@ module _ (a b c d : ℕ × ℕ) where
       (plus + (P * P - less) + 2 * x + (P - y))
       (element-add (plus + (P * P - less) + 2 * x) (P - y)
       (element-add (plus + (P * P - less)) (2 * x) (element-add plus (P * P - less) (element-mul plus (a .0) (c .0) e)
-      (element-minus P less (omega arith) (element-mul less (a .1) (c .1) f))) (element-double x x-is)) (ap element one-less ∙ element-minus 1 y (omega arith) y-is))
+      (element-minus P less (omega arith) (element-mul less (a .1) (c .1) f))) (element-double x x-is))
+      (ap element one-less ∙ element-minus 1 y (omega arith) y-is))
       (below _ _) tt)
       (k ∙ mod-P-is-value env (v0 :* v5 :+ v1 :* v4 :+ bdExpr .0 :+ (bdExpr .1 :+ bdExpr .1)) (firstExpr .1) (left + right + x + 2 * y)
       (element-add (left + right + x) (2 * y) (element-add (left + right) x
-      (element-add left right (element-mul left (a .0) (c .1) g) (element-mul right (a .1) (c .0) h)) x-is) (element-double y y-is)) (below _ _) tt)
+      (element-add left right (element-mul left (a .0) (c .1) g) (element-mul right (a .1) (c .0) h)) x-is) (element-double y y-is))
+      (below _ _) tt)
     where
       one-less : P - y ≡ 1 * P - y
       one-less = refl
@@ -111,7 +116,8 @@ module _ (a b c d : ℕ × ℕ) where
       pair-path
       (j ∙ mod-P-is-value env (v0 :* v6 :+ v2 :* v4 :+ :- (v1 :* v7 :+ v3 :* v5)) (secondExpr .0) (p₁ + p₂ + (2 * (P * P) - (m₁ + m₂)))
       (element-add (p₁ + p₂) (2 * (P * P) - (m₁ + m₂)) (element-add p₁ p₂ (element-mul p₁ (a .0) (d .0) e) (element-mul p₂ (b .0) (c .0) f))
-      (element-minus (2 * P) (m₁ + m₂) (omega arith) (element-add m₁ m₂ (element-mul m₁ (a .1) (d .1) g) (element-mul m₂ (b .1) (c .1) h)))) (below _ _) tt)
+      (element-minus (2 * P) (m₁ + m₂) (omega arith) (element-add m₁ m₂ (element-mul m₁ (a .1) (d .1) g) (element-mul m₂ (b .1) (c .1) h))))
+      (below _ _) tt)
       (i ∙ mod-P-is-value env (v0 :* v7 :+ v1 :* v6 :+ (v2 :* v5 :+ v3 :* v4)) (secondExpr .1) (l₁ + l₂ + (r₁ + r₂))
       (element-add (l₁ + l₂) (r₁ + r₂) (element-add l₁ l₂ (element-mul l₁ (a .0) (d .1) k) (element-mul l₂ (a .1) (d .0) l))
       (element-add r₁ r₂ (element-mul r₁ (b .0) (c .1) m) (element-mul r₂ (b .1) (c .0) n))) (below _ _) tt)

@@ -48,7 +48,8 @@ pub element-two-plus-i : onPair element (twoPlusI words31) ≡ twoPlusI m31
 element-two-plus-i = λ i. (element-homomorphism .to-add 1 1 i, element 1)
 
 abbrev pub qm31-representation : Representation quarticWords qm31
-qm31-representation = extension complexWords cm31 cm31-representation (twoPlusI words31) (twoPlusI m31) element-two-plus-i twoPlusI-nonsquare
+qm31-representation =
+    extension complexWords cm31 cm31-representation (twoPlusI words31) (twoPlusI m31) element-two-plus-i twoPlusI-nonsquare
 
 pub m31-mul-inverse : (a : ℕ) → a < P → ¬ (a ≡ 0) → mulP a (invP a) ≡ 1
 m31-mul-inverse a h n = mul-inverse words31 m31 m31-representation a (h, n)
@@ -66,5 +67,6 @@ pub qm31-mul-inverse : (a : (ℕ × ℕ) × (ℕ × ℕ)) → qm31-representatio
     → quarticWords .mul a (quarticInverse a) ≡ ((1, 0), (0, 0))
 qm31-mul-inverse a h n = mul-inverse quarticWords qm31 qm31-representation a (h, n)
 
-pub qm31-inverse-unique : (a b : (ℕ × ℕ) × (ℕ × ℕ)) → qm31-representation .Reduced b → quarticWords .mul a b ≡ ((1, 0), (0, 0)) → b ≡ quarticInverse a
+pub qm31-inverse-unique : (a b : (ℕ × ℕ) × (ℕ × ℕ)) → qm31-representation .Reduced b → quarticWords .mul a b ≡ ((1, 0), (0, 0))
+    → b ≡ quarticInverse a
 qm31-inverse-unique = inverse-unique quarticWords qm31 qm31-representation

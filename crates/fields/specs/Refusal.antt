@@ -1,7 +1,8 @@
 -- Document 01's number of each refusal, and its position.
 use Prim.Native.Nat.{ℕ}
 use Rattle.fields.specs.declared.refusal.Refusal.{Refusal}
-use Rattle.fields.specs.declared.refusal.Refusal.the-variants.{LogSize, Index, Scalar, Length, Chunk, Word, Reduction, Inverse, Halving, Doublings, Circle, Narrowing}
+use Rattle.fields.specs.declared.refusal.Refusal.the-variants.{LogSize, Index, Scalar, Length, Chunk, Word, Reduction}
+use Rattle.fields.specs.declared.refusal.Refusal.the-variants.{Inverse, Halving, Doublings, Circle, Narrowing}
 
 abbrev pub numberOf : Refusal → ℕ
 numberOf LogSize = 6

@@ -32,7 +32,8 @@ pub record Representation (W K : Ops) : Type 1 where
 
 module _ (W K : Ops) (H : Representation W K) where
   open Ops K using (El, zero as 𝟘, one as 𝟙, mul as _⊗_)
-  open Representation H using (field, element, homomorphism, Reduced, injective, zero-reduced, one-reduced, add-reduced, mul-reduced, neg-reduced, inverse, inverse-reduced, inverse-element)
+  open Representation H using (field, element, homomorphism, Reduced, injective, inverse, inverse-reduced, inverse-element)
+  open Representation H using (zero-reduced, one-reduced, add-reduced, mul-reduced, neg-reduced)
   open Homomorphism homomorphism using (to-zero, to-one, to-add, to-mul, to-neg)
 
   infixl 70 _⊗_
@@ -47,7 +48,8 @@ module _ (W K : Ops) (H : Representation W K) where
   pub mul-inverse : (a : W .El) → Unit a → W .mul a (inverse a) ≡ W .one
   mul-inverse a u =
       injective (W .mul a (inverse a)) (W .one) (mul-reduced a (inverse a)) one-reduced
-      (to-mul a (inverse a) ∙ ap (_⊗_ (element a)) (inverse-element a (unit-nonzero a u)) ∙ field .mul-inv (element a) (unit-nonzero a u) ∙ sym to-one)
+      (to-mul a (inverse a) ∙ ap (_⊗_ (element a)) (inverse-element a (unit-nonzero a u))
+      ∙ field .mul-inv (element a) (unit-nonzero a u) ∙ sym to-one)
 
   inverse-of-elements : (a b : W .El) → Reduced b → element a ⊗ element b ≡ 𝟙 → b ≡ inverse a
   inverse-of-elements a b h e =
@@ -89,17 +91,20 @@ module _ (W K : Ops) (H : Representation W K) where
   pub inverse-first : (a b : W .El) → Unit a → Unit b → W .mul (inverse (W .mul a b)) b ≡ inverse a
   inverse-first a b u v =
       inverse-of-elements a (W .mul x b) (mul-reduced x b)
-      (ap (_⊗_ (element a)) (to-mul x b ∙ field .laws .mul-comm (element x) (element b)) ∙ sym (field .laws .mul-assoc (element a) (element b) (element x))
+      (ap (_⊗_ (element a)) (to-mul x b ∙ field .laws .mul-comm (element x) (element b))
+      ∙ sym (field .laws .mul-assoc (element a) (element b) (element x))
       ∙ product-inverse a b u v)
     where
       x : W .El
       x = inverse (W .mul a b)
 
   -- an equation of the ring holds on words, where both sides are reduced
-  pub solveWords : (env : List (W .El)) (e f : Expr) → Reduced (value W env e) → Reduced (value W env f) → T (equal e f) → value W env e ≡ value W env f
+  pub solveWords : (env : List (W .El)) (e f : Expr) → Reduced (value W env e) → Reduced (value W env f) → T (equal e f)
+      → value W env e ≡ value W env f
   solveWords env e f h k t =
       injective (value W env e) (value W env f) h k
-      (to-value W K element homomorphism env e ∙ solve K (field .laws) (map element env) e f t ∙ sym (to-value W K element homomorphism env f))
+      (to-value W K element homomorphism env e ∙ solve K (field .laws) (map element env) e f t
+      ∙ sym (to-value W K element homomorphism env f))
 
   pub mul-one : (a : W .El) → Reduced a → W .mul a (W .one) ≡ a
   mul-one a h = solveWords (a ∷ []) (v0 :* Expr.:1) v0 (mul-reduced _ _) h tt
@@ -142,9 +147,11 @@ module _ (W K : Ops) (H : Representation W K) where
   unfolding pow
   mul-bit-zero a b bit h e = sym (mul-one a h) ∙ ap (λ (n : ℕ). W .mul a (pow W b n)) (sym e)
 
-  square-step : (res base : W .El) (n : ℕ) → W .mul (W .mul res (pow W base (n % 2))) (pow W (W .mul base base) (n / 2)) ≡ W .mul res (pow W base n)
+  square-step : (res base : W .El) (n : ℕ)
+      → W .mul (W .mul res (pow W base (n % 2))) (pow W (W .mul base base) (n / 2)) ≡ W .mul res (pow W base n)
   square-step res base n =
-      injective (W .mul (W .mul res low) high) (W .mul res (pow W base n)) (mul-reduced (W .mul res low) high) (mul-reduced res (pow W base n))
+      injective (W .mul (W .mul res low) high) (W .mul res (pow W base n)) (mul-reduced (W .mul res low) high)
+      (mul-reduced res (pow W base n))
       (to-mul (W .mul res low) high ∙ ap₂ _⊗_ (to-mul res low ∙ ap (_⊗_ (element res)) (powers base (n % 2)))
       (powers (W .mul base base) (n / 2) ∙ ap (λ t. pow K t (n / 2)) (to-mul base base))
       ∙ square-and-multiply K (field .laws) (element res) (element base) n
@@ -165,12 +172,14 @@ module _ (W K : Ops) (H : Representation W K) where
   pow-step res base res′ base′ n e f = ap₂ (λ x y. W .mul x (pow W y (n / 2))) e f ∙ square-step res base n
 
   -- what holds before the first step and is kept says, where nothing is left of the exponent, that res is the power
-  pub pow-end : (res base a : W .El) (m n : ℕ) → Reduced res → m ≡ 0 → W .mul res (pow W base m) ≡ W .mul (W .one) (pow W a n) → res ≡ pow W a n
+  pub pow-end : (res base a : W .El) (m n : ℕ) → Reduced res → m ≡ 0 → W .mul res (pow W base m) ≡ W .mul (W .one) (pow W a n)
+      → res ≡ pow W a n
   pow-end res base a m n h z e = mul-bit-zero res base m h z ∙ e ∙ one-mul (pow W a n) (pow-reduced a n)
 
   -- pairs of words and the extension by a square root of r
   module _ (r : W .El) (s : El) (root : element r ≡ s) (nonsquare : (x : El) → ¬ (x ⊗ x ≡ s)) where
-    inverse-norm : (a : W .El × W .El) → ¬ (onPair element a ≡ (𝟘, 𝟘)) → element (inverse (norm W r a)) ≡ field .inv (norm K s (onPair element a))
+    inverse-norm : (a : W .El × W .El) → ¬ (onPair element a ≡ (𝟘, 𝟘))
+        → element (inverse (norm W r a)) ≡ field .inv (norm K s (onPair element a))
     inverse-norm a n =
         inverse-element (norm W r a)
         (λ z. n (norm-zero K field s nonsquare (onPair element a) (sym (to-norm W K element homomorphism r s root a) ∙ z)))
@@ -180,7 +189,8 @@ module _ (W K : Ops) (H : Representation W K) where
         → onPair element (extInverse W r inverse a) ≡ extInverse K s (field .inv) (onPair element a)
     ext-inverse-element a n = λ i. (
       (to-mul (a .0) (inverse (norm W r a)) ∙ ap (_⊗_ (element (a .0))) (inverse-norm a n)) i,
-      (to-neg (W .mul (a .1) (inverse (norm W r a))) ∙ ap (K .neg) (to-mul (a .1) (inverse (norm W r a)) ∙ ap (_⊗_ (element (a .1))) (inverse-norm a n))) i,
+      (to-neg (W .mul (a .1) (inverse (norm W r a)))
+          ∙ ap (K .neg) (to-mul (a .1) (inverse (norm W r a)) ∙ ap (_⊗_ (element (a .1))) (inverse-norm a n))) i,
     )
 
     abbrev pub extension : Representation (ext W r) (ext K s)
@@ -189,7 +199,10 @@ module _ (W K : Ops) (H : Representation W K) where
       element = onPair element;
       homomorphism = ext-homomorphism W K element homomorphism r s root;
       Reduced = λ p. Reduced (p .0) × Reduced (p .1);
-      injective = λ a b h k e i. (injective (a .0) (b .0) (h .0) (k .0) (ap (λ p. p .0) e) i, injective (a .1) (b .1) (h .1) (k .1) (ap (λ p. p .1) e) i);
+      injective = λ a b h k e i. (
+        injective (a .0) (b .0) (h .0) (k .0) (ap (λ p. p .0) e) i,
+        injective (a .1) (b .1) (h .1) (k .1) (ap (λ p. p .1) e) i,
+      );
       zero-reduced = (zero-reduced, zero-reduced);
       one-reduced = (one-reduced, zero-reduced);
       add-reduced = λ a b. (add-reduced (a .0) (b .0), add-reduced (a .1) (b .1));

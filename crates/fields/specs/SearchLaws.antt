@@ -25,7 +25,8 @@ unfolding first
 first-is test zero k l h e = omega arith
 first-is test (suc n) zero l h e = rw (e (omega arith))
 first-is test (suc n) (suc k) l h e =
-    rw (h 0 (omega arith)) (ap suc (first-is (λ j. test (suc j)) n k (N.le-of-suc-le-suc l) (λ j lt. h (suc j) (omega arith)) (λ lt. e (omega arith))))
+    rw (h 0 (omega arith)) (ap suc
+    (first-is (λ j. test (suc j)) n k (N.le-of-suc-le-suc l) (λ j lt. h (suc j) (omega arith)) (λ lt. e (omega arith))))
 
 -- where the test holds first
 pub first-at : (test : ℕ → Bool) (n k : ℕ) → k < n → None test k → test k ≡ true → k ≡ first test n
@@ -50,7 +51,8 @@ none-before test (suc n) h (suc j) l =
 pub none-found : (test : ℕ → Bool) (n : ℕ) → n ≤ first test n → None test n
 none-found test n h = record { none = none-before test n h }
 
-found-next : (test : ℕ → Bool) (m n : ℕ) (t : Bool) → test 0 ≡ t → (m < n → test (suc m) ≡ true) → cond t 0 (suc m) < suc n → test (cond t 0 (suc m)) ≡ true
+found-next : (test : ℕ → Bool) (m n : ℕ) (t : Bool) → test 0 ≡ t → (m < n → test (suc m) ≡ true) → cond t 0 (suc m) < suc n
+    → test (cond t 0 (suc m)) ≡ true
 found-next test m n true e rest h = e
 found-next test m n false e rest h = rest (N.le-of-suc-le-suc h)
 

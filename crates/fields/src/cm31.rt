@@ -2,7 +2,9 @@
 ghost use mathlib.Core.Path.{_≡_};
 ghost use Prim.Native.Nat.{_+_, _*_, _^_};
 ghost use Rattle.fields.specs.Words.{complexWords};
-ghost use Rattle.fields.specs.CM31.{ofPair, fromPairAnswer, fromBaseAnswer, isZeroAnswer, addAnswer, subAnswer, negAnswer, mulAnswer, squareAnswer, powAnswer, inverseAnswer, divAnswer, conjugateAnswer, narrowAnswer, addBaseAnswer, subBaseAnswer, mulBaseAnswer, divBaseAnswer, baseSubAnswer, baseDivAnswer};
+ghost use Rattle.fields.specs.CM31.{ofPair, fromPairAnswer, fromBaseAnswer, isZeroAnswer, addAnswer, subAnswer, negAnswer};
+ghost use Rattle.fields.specs.CM31.{mulAnswer, squareAnswer, powAnswer, inverseAnswer, divAnswer, conjugateAnswer, narrowAnswer};
+ghost use Rattle.fields.specs.CM31.{addBaseAnswer, subBaseAnswer, mulBaseAnswer, divBaseAnswer, baseSubAnswer, baseDivAnswer};
 use crate::answer::BoolAnswer;
 use crate::m31::M31;
 use crate::m31::M31Answer;

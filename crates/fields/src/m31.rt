@@ -2,7 +2,9 @@
 ghost use mathlib.Core.Path.{_≡_};
 ghost use Prim.Native.Nat.{_+_, _*_, _%_, _^_};
 ghost use Rattle.algebra.specs.M31.{P};
-ghost use Rattle.fields.specs.M31.{ofWord, residueOf, partialReduceAnswer, reduceAnswer, fromWordAnswer, isZeroAnswer, addAnswer, subAnswer, negAnswer, mulAnswer, squareAnswer, powAnswer, sqnAnswer, inverseAnswer, divAnswer, conjugateAnswer};
+ghost use Rattle.fields.specs.M31.{ofWord, residueOf, partialReduceAnswer, reduceAnswer, fromWordAnswer};
+ghost use Rattle.fields.specs.M31.{isZeroAnswer, addAnswer, subAnswer, negAnswer, mulAnswer, squareAnswer};
+ghost use Rattle.fields.specs.M31.{powAnswer, sqnAnswer, inverseAnswer, divAnswer, conjugateAnswer};
 ghost use Rattle.fields.specs.Squarings.{squaringsOf};
 use crate::answer::BoolAnswer;
 use crate::refusal::Refusal;

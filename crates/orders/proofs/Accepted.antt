@@ -17,11 +17,13 @@ module _ (l : List ℕ) (n : ℕ) (e : n ≡ logSize (length l)) where
   pub is-power : n < 64 → length l ≡ 2 ^ n
   is-power h = sym (eqb-true (2 ^ n) (length l) (rw e (found-holds (λ k. eqb (2 ^ k) (length l)) 64 (rw (sym e) h))))
 
-  pub accepted : (order : ℕ → ℕ → ℕ) (v : List ℕ) → n < 64 → v ≡ reordered (order n) l → (Written ≡ inPlaceAnswer (length l)) × (v ≡ inPlaceExit (inPlaceAnswer (length l)) (order (logSize (length l))) l)
+  pub accepted : (order : ℕ → ℕ → ℕ) (v : List ℕ) → n < 64 → v ≡ reordered (order n) l
+      → (Written ≡ inPlaceAnswer (length l)) × (v ≡ inPlaceExit (inPlaceAnswer (length l)) (order (logSize (length l))) l)
   unfolding inPlaceAnswer inPlaceExit
   accepted order v h f = rw (← e, lt-ltb n 64 h) (refl, f)
 
-  pub refused : (order : ℕ → ℕ → ℕ) → 64 ≤ n → (Refused Length ≡ inPlaceAnswer (length l)) × (l ≡ inPlaceExit (inPlaceAnswer (length l)) (order (logSize (length l))) l)
+  pub refused : (order : ℕ → ℕ → ℕ) → 64 ≤ n
+      → (Refused Length ≡ inPlaceAnswer (length l)) × (l ≡ inPlaceExit (inPlaceAnswer (length l)) (order (logSize (length l))) l)
   unfolding inPlaceAnswer inPlaceExit
   refused order h = rw (← e, le-ltb n 64 h) (refl, refl)
 
@@ -33,10 +35,12 @@ module _ (values dst : List ℕ) (u : Bool) (e : u ≡ lengthsFit (length values
       let both = and-eq-true-iff (leb (length values) (length dst)) (eqb (length values % 2) 0) .0 (sym e ∙ not-false u h) in
       (leb-true (length values) (length dst) (both .0), eqb-true (length values % 2) 0 (both .1))
 
-  pub copied-whole : (f : ℕ → ℕ) (out : List ℕ) → not u ≡ false → out ≡ reordered f values ++ drop (length values) dst → (Written ≡ copyAnswer (length values) (length dst)) × (out ≡ copyExit (copyAnswer (length values) (length dst)) f values dst)
+  pub copied-whole : (f : ℕ → ℕ) (out : List ℕ) → not u ≡ false → out ≡ reordered f values ++ drop (length values) dst
+      → (Written ≡ copyAnswer (length values) (length dst)) × (out ≡ copyExit (copyAnswer (length values) (length dst)) f values dst)
   unfolding copyAnswer copyExit
   copied-whole f out h g = rw (sym e ∙ not-false u h) (refl, g)
 
-  pub copied-nothing : (f : ℕ → ℕ) → not u ≡ true → (Refused Length ≡ copyAnswer (length values) (length dst)) × (dst ≡ copyExit (copyAnswer (length values) (length dst)) f values dst)
+  pub copied-nothing : (f : ℕ → ℕ) → not u ≡ true → (Refused Length ≡ copyAnswer (length values) (length dst))
+      × (dst ≡ copyExit (copyAnswer (length values) (length dst)) f values dst)
   unfolding copyAnswer copyExit
   copied-nothing f h = rw (sym e ∙ not-true u h) (refl, refl)

@@ -11,7 +11,8 @@ use Rattle.orders.specs.BitReverse.{reverseBits, reversed-below, reverse
 use Rattle.orders.specs.Bounds.{BlockRoom, PairRoom}
 use Rattle.orders.specs.Orders.{bitReverseIndex, reordered, toDomain, toCoset, cosetBitReversed}
 use Rattle.orders.specs.OrderLaws.{index-reversed, is-reordered, even-to-domain, odd-to-domain, first-to-coset, second-to-coset}
-use Rattle.orders.specs.OrderLaws.{to-coset-below, to-domain-to-coset, coset-bits-even, coset-bits-odd, coset-bits-below, coset-bits-back}
+use Rattle.orders.specs.OrderLaws.{to-coset-below, to-domain-to-coset, coset-bits-even}
+use Rattle.orders.specs.OrderLaws.{coset-bits-odd, coset-bits-below, coset-bits-back}
 use Rattle.orders.specs.Swaps.{swappedIfBefore, rowSwapped, blockSwapped, pairSwapped}
 use Rattle.orders.proofs.Turns.{Visits, in-order, Swapped, none-swapped, all-swapped, swapped-next}
 use Rattle.orders.proofs.Turns.{Copied, none-copied, copied, all-copied}

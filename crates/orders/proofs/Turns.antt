@@ -29,7 +29,8 @@ pub record Swapped (f at : ℕ → ℕ) (l : List ℕ) (t : ℕ) (v : List ℕ) 
   pub partner : (k : ℕ) → k < length l → at (f k) < t → getD v k 0 ≡ getD l (f k) 0
   pub rest : (k : ℕ) → k < length l → t ≤ at k → t ≤ at (f k) → getD v k 0 ≡ getD l k 0
 
-module _ (f at : ℕ → ℕ) (l : List ℕ) (within : (k : ℕ) → k < length l → f k < length l) (twice : (k : ℕ) → k < length l → f (f k) ≡ k) (visits : Visits (length l) at) where
+module _ (f at : ℕ → ℕ) (l : List ℕ) (within : (k : ℕ) → k < length l → f k < length l) (twice : (k : ℕ) → k < length l → f (f k) ≡ k)
+    (visits : Visits (length l) at) where
   pub none-swapped : Swapped f at l 0 l
   none-swapped = record {
     long = refl;
@@ -60,7 +61,8 @@ module _ (f at : ℕ → ℕ) (l : List ℕ) (within : (k : ℕ) → k < length 
     kept-i : at j ≤ t → getD v i 0 ≡ getD l (f i) 0
     kept-i h = elim (decLt (at j) t) [
       | yes e ↦ s .partner i in-i (subst (λ (m : ℕ). at m < t) (sym to-j) e)
-      | no g ↦ s .rest i in-i (omega arith) (subst (λ (m : ℕ). t ≤ at m) (sym to-j) (omega arith)) ∙ ap (λ (m : ℕ). getD l m 0) (sym (to-j ∙ is-i j in-j g (omega arith)))
+      | no g ↦ s .rest i in-i (omega arith) (subst (λ (m : ℕ). t ≤ at m) (sym to-j) (omega arith))
+          ∙ ap (λ (m : ℕ). getD l m 0) (sym (to-j ∙ is-i j in-j g (omega arith)))
     ]
 
     kept-j : at j ≤ t → getD v j 0 ≡ getD l (f j) 0
@@ -116,10 +118,12 @@ module _ (f at : ℕ → ℕ) (l : List ℕ) (within : (k : ℕ) → k < length 
         | no n ↦ subst (λ (m : ℕ). getD w m 0 ≡ getD l (f m) 0) (sym (is-i k b n g)) (changed-i h)
       ];
       partner = λ k b g. elim (decLt (at (f k)) t) [
-        | yes e ↦ other k (λ q. omega (arith, ap (λ (m : ℕ). at (f m)) q, ap at to-j)) (λ q. omega (arith, ap (λ (m : ℕ). at (f m)) q, ap at back)) ∙ s .partner k b e
+        | yes e ↦ other k (λ q. omega (arith, ap (λ (m : ℕ). at (f m)) q, ap at to-j))
+            (λ q. omega (arith, ap (λ (m : ℕ). at (f m)) q, ap at back)) ∙ s .partner k b e
         | no n ↦ subst (λ (m : ℕ). getD w m 0 ≡ getD l (f m) 0) (sym (is-j k b n g)) (changed-j h)
       ];
-      rest = λ k b g q. other k (λ e. omega (arith, ap at e)) (λ e. omega (arith, ap (λ (m : ℕ). at (f m)) e, ap at back)) ∙ s .rest k b (omega arith) (omega arith);
+      rest = λ k b g q. other k (λ e. omega (arith, ap at e)) (λ e. omega (arith, ap (λ (m : ℕ). at (f m)) e, ap at back))
+          ∙ s .rest k b (omega arith) (omega arith);
     }
 
     pub swapped-next : (s u : ℕ) → s ≡ t + 1 → at j ≡ u → Swapped f at l s (swappedIfBefore t u i j v)
@@ -143,12 +147,14 @@ module _ (f at : ℕ → ℕ) (values dst : List ℕ) (room : length values ≤ 
   pub none-copied : Copied f at values dst 0 dst
   none-copied = record { long = refl; written = λ k b h. absurd (N.not-suc-le-zero h); rest = λ k h. refl }
 
-  next-copied : (t i j : ℕ) (out : List ℕ) → at i ≡ t → i < length values → f i ≡ j → Copied f at values dst t out → Copied f at values dst (t + 1) (set out i (getD values j 0))
+  next-copied : (t i j : ℕ) (out : List ℕ) → at i ≡ t → i < length values → f i ≡ j → Copied f at values dst t out
+      → Copied f at values dst (t + 1) (set out i (getD values j 0))
   next-copied t i j out turn in-i to-j s = record {
     long = simp length-set (s .long);
     written = λ k b g. elim (decLt (at k) t) [
       | yes e ↦ getD-set-other out i k (getD values j 0) 0 (λ q. omega (arith, ap at q)) ∙ s .written k b e
-      | no n ↦ subst (λ (m : ℕ). getD (set out i (getD values j 0)) m 0 ≡ getD values (f m) 0) (sym (visits .once k i b in-i (omega arith))) here
+      | no n ↦ subst (λ (m : ℕ). getD (set out i (getD values j 0)) m 0 ≡ getD values (f m) 0)
+          (sym (visits .once k i b in-i (omega arith))) here
     ];
     rest = λ k h. getD-set-other out i k (getD values j 0) 0 (λ q. away k h q) ∙ s .rest k (λ b. N.le-trans (N.le-add-right t 1) (h b));
   }
@@ -159,17 +165,21 @@ module _ (f at : ℕ → ℕ) (values dst : List ℕ) (room : length values ≤ 
       away : (k : ℕ) → (k < length values → t + 1 ≤ at k) → k ≡ i → ⊥
       away k h q = omega (arith, ap at q, h (subst (λ (m : ℕ). m < length values) (sym q) in-i))
 
-  pub copied : (s t i j : ℕ) (out : List ℕ) → s ≡ t + 1 → at i ≡ t → i < length values → f i ≡ j → Copied f at values dst t out → Copied f at values dst s (set out i (getD values j 0))
-  copied s t i j out next turn in-i to-j c = subst (λ (m : ℕ). Copied f at values dst m (set out i (getD values j 0))) (sym next) (next-copied t i j out turn in-i to-j c)
+  pub copied : (s t i j : ℕ) (out : List ℕ) → s ≡ t + 1 → at i ≡ t → i < length values → f i ≡ j → Copied f at values dst t out
+      → Copied f at values dst s (set out i (getD values j 0))
+  copied s t i j out next turn in-i to-j c =
+      subst (λ (m : ℕ). Copied f at values dst m (set out i (getD values j 0))) (sym next) (next-copied t i j out turn in-i to-j c)
 
-  pub all-copied : (t : ℕ) (out : List ℕ) → length values ≤ t → Copied f at values dst t out → out ≡ reordered f values ++ drop (length values) dst
+  pub all-copied : (t : ℕ) (out : List ℕ) → length values ≤ t → Copied f at values dst t out
+      → out ≡ reordered f values ++ drop (length values) dst
   all-copied t out h s = ext-getD 0 out (reordered f values ++ drop (length values) dst) lengths same
     where
       reordered-values-length : length (reordered f values) ≡ length values
       reordered-values-length = reordered-length f values
 
       lengths : length out ≡ length (reordered f values ++ drop (length values) dst)
-      lengths = s .long ∙ sym (length-append (reordered f values) (drop (length values) dst) ∙ omega (arith, reordered-values-length, length-drop (length values) dst))
+      lengths = s .long ∙ sym (length-append (reordered f values) (drop (length values) dst)
+          ∙ omega (arith, reordered-values-length, length-drop (length values) dst))
 
       past : (k : ℕ) → length values ≤ k → getD out k 0 ≡ getD (reordered f values ++ drop (length values) dst) k 0
       past k g =
@@ -182,6 +192,8 @@ module _ (f at : ℕ → ℕ) (values dst : List ℕ) (room : length values ≤ 
 
       same : (k : ℕ) → k < length out → getD out k 0 ≡ getD (reordered f values ++ drop (length values) dst) k 0
       same k b = elim (decLt k (length values)) [
-        | yes e ↦ s .written k e (omega (arith, visits .below k e)) ∙ sym (List·getD-append (reordered f values) (drop (length values) dst) 0 k (rw reordered-values-length e) ∙ reordered-at f values k e)
+        | yes e ↦ s .written k e (omega (arith, visits .below k e))
+            ∙ sym (List·getD-append (reordered f values) (drop (length values) dst) 0 k (rw reordered-values-length e)
+            ∙ reordered-at f values k e)
         | no g ↦ past k (omega arith)
       ]

@@ -37,7 +37,8 @@ reversed-odd n p =
 -- the reverse from the low end: bit n comes first
 pub reversed-last : (n i : ℕ) → reverseBits (suc n) i ≡ 2 * reverseBits n i + i / 2 ^ n % 2
 unfolding reverseBits
-reversed-last zero i = omega (arith, ap (λ (t : ℕ). i / t) (N.pow-zero 2) ∙ N.div-one i, N.pow-zero 2, ap (λ (t : ℕ). i % 2 * t) (N.pow-zero 2))
+reversed-last zero i =
+    omega (arith, ap (λ (t : ℕ). i / t) (N.pow-zero 2) ∙ N.div-one i, N.pow-zero 2, ap (λ (t : ℕ). i % 2 * t) (N.pow-zero 2))
 reversed-last (suc n) i =
     ap (λ (t : ℕ). i % 2 * 2 ^ suc n + t) (reversed-last n (i / 2))
     ∙ shape (i % 2) (2 ^ suc n) (2 ^ n) (reverseBits n (i / 2)) (i / 2 / 2 ^ n % 2) (N.pow-succ' 2 n)
@@ -82,7 +83,8 @@ reversed-top-bit n i = W.high (i % 2) n (reversed-below n (i / 2))
 pub reversed-twice : (n i : ℕ) → reverseBits n (reverseBits n i) ≡ i % 2 ^ n
 unfolding reverseBits
 reversed-twice zero i = omega (arith, N.pow-zero 2)
-reversed-twice (suc n) i = outer ∙ ap (λ (t : ℕ). i / 2 ^ n % 2 * 2 ^ n + t) (reversed-twice n i) ∙ sym (W.mod-pow-add i 1 n) ∙ ap (λ (t : ℕ). i % 2 ^ t) (omega arith)
+reversed-twice (suc n) i = outer ∙ ap (λ (t : ℕ). i / 2 ^ n % 2 * 2 ^ n + t) (reversed-twice n i) ∙ sym (W.mod-pow-add i 1 n)
+    ∙ ap (λ (t : ℕ). i % 2 ^ t) (omega arith)
   where
     reversed-half : reverseBits (suc n) i / 2 ≡ reverseBits n i
     reversed-half = omega (arith, reversed-last n i)

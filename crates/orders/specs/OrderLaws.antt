@@ -8,7 +8,8 @@ use native.Mathlib.Omega.{arith}
 use borrow.Author.Tests.{lt-ltb, le-ltb, eq-eqb, ne-eqb}
 use lib.ListN.{length, getD}
 use lib.Seq.{ext-getD}
-use Rattle.orders.specs.BitReverse.{reverseBits, reversed-below, reversed-back, reversed-first-half, reversed-second-half, reversed-complement}
+use Rattle.orders.specs.BitReverse.{reverseBits, reversed-below, reversed-back, reversed-first-half}
+use Rattle.orders.specs.BitReverse.{reversed-second-half, reversed-complement}
 use Rattle.orders.specs.Orders.{bitReverseIndex, wordsAt, reordered, toDomain, toCoset, cosetBitReversed}
 
 -- ---- the index of document 01 is the reverse, but for log size 0
@@ -44,13 +45,15 @@ pub reordered-at : (f : ℕ → ℕ) (l : List ℕ) (i : ℕ) → i < length l �
 reordered-at f l i h = words-at f 0 (length l) l i h ∙ ap (λ (m : ℕ). getD l (f m) 0) (N.zero-add i)
 
 -- a list that has word f i of l as its word i is l reordered
-pub is-reordered : (f : ℕ → ℕ) (l v : List ℕ) → length v ≡ length l → ((i : ℕ) → i < length l → getD v i 0 ≡ getD l (f i) 0) → v ≡ reordered f l
+pub is-reordered : (f : ℕ → ℕ) (l v : List ℕ) → length v ≡ length l → ((i : ℕ) → i < length l → getD v i 0 ≡ getD l (f i) 0)
+    → v ≡ reordered f l
 is-reordered f l v e h =
     ext-getD 0 v (reordered f l) (e ∙ sym (reordered-length f l))
     (λ i b. let c : i < length l = subst (λ (m : ℕ). i < m) e b in h i c ∙ sym (reordered-at f l i c))
 
 -- one order after another
-pub reordered-twice : (f g h : ℕ → ℕ) (l : List ℕ) → ((i : ℕ) → i < length l → f i < length l) → ((i : ℕ) → i < length l → g (f i) ≡ h i) → reordered f (reordered g l) ≡ reordered h l
+pub reordered-twice : (f g h : ℕ → ℕ) (l : List ℕ) → ((i : ℕ) → i < length l → f i < length l) → ((i : ℕ) → i < length l → g (f i) ≡ h i)
+    → reordered f (reordered g l) ≡ reordered h l
 reordered-twice f g h l within e =
     is-reordered h l (reordered f (reordered g l)) (reordered-length f (reordered g l) ∙ reordered-length g l)
     (λ i b.
@@ -59,7 +62,8 @@ reordered-twice f g h l within e =
     ∙ ap (λ (m : ℕ). getD l m 0) (e i b))
 
 -- orders that undo one another
-pub reordered-undone : (f g : ℕ → ℕ) (l : List ℕ) → ((i : ℕ) → i < length l → f i < length l) → ((i : ℕ) → i < length l → g (f i) ≡ i) → reordered f (reordered g l) ≡ l
+pub reordered-undone : (f g : ℕ → ℕ) (l : List ℕ) → ((i : ℕ) → i < length l → f i < length l) → ((i : ℕ) → i < length l → g (f i) ≡ i)
+    → reordered f (reordered g l) ≡ l
 reordered-undone f g l within e = reordered-twice f g (λ i. i) l within e ∙ sym (is-reordered (λ i. i) l l refl (λ i h. refl))
 
 -- ---- the order map, for any even size
@@ -119,22 +123,26 @@ module _ (size : ℕ) (even : size % 2 ≡ 0) where
 
 -- ---- the copying pair: word k of the coset's order goes to the place that the order map names, and back
 
-pub coset-word-goes : (l : List ℕ) (k : ℕ) → length l % 2 ≡ 0 → k < length l → getD (reordered (toCoset (length l)) l) (toDomain (length l) k) 0 ≡ getD l k 0
+pub coset-word-goes : (l : List ℕ) (k : ℕ) → length l % 2 ≡ 0 → k < length l
+    → getD (reordered (toCoset (length l)) l) (toDomain (length l) k) 0 ≡ getD l k 0
 coset-word-goes l k e h =
     reordered-at (toCoset (length l)) l (toDomain (length l) k) (to-domain-below (length l) e k h)
     ∙ ap (λ (m : ℕ). getD l m 0) (to-coset-to-domain (length l) e k h)
 
 pub coset-domain-coset : (l : List ℕ) → length l % 2 ≡ 0 → reordered (toDomain (length l)) (reordered (toCoset (length l)) l) ≡ l
-coset-domain-coset l e = reordered-undone (toDomain (length l)) (toCoset (length l)) l (to-domain-below (length l) e) (to-coset-to-domain (length l) e)
+coset-domain-coset l e =
+    reordered-undone (toDomain (length l)) (toCoset (length l)) l (to-domain-below (length l) e) (to-coset-to-domain (length l) e)
 
 pub domain-coset-domain : (l : List ℕ) → length l % 2 ≡ 0 → reordered (toCoset (length l)) (reordered (toDomain (length l)) l) ≡ l
-domain-coset-domain l e = reordered-undone (toCoset (length l)) (toDomain (length l)) l (to-coset-below (length l) e) (to-domain-to-coset (length l) e)
+domain-coset-domain l e =
+    reordered-undone (toCoset (length l)) (toDomain (length l)) l (to-coset-below (length l) e) (to-domain-to-coset (length l) e)
 
 -- ---- the in-place pair: each undoes itself, so word k goes to the place that it comes from
 
 pub bit-reversed-twice : (n : ℕ) (l : List ℕ) → length l ≡ 2 ^ n → reordered (reverseBits n) (reordered (reverseBits n) l) ≡ l
 bit-reversed-twice n l e =
-    reordered-undone (reverseBits n) (reverseBits n) l (λ i h. rw e (reversed-below n i)) (λ i h. reversed-back n i (subst (λ (m : ℕ). i < m) e h))
+    reordered-undone (reverseBits n) (reverseBits n) l (λ i h. rw e (reversed-below n i))
+    (λ i h. reversed-back n i (subst (λ (m : ℕ). i < m) e h))
 
 -- bit 0 stays; the bits above are reversed, and complemented where it is 1
 pub coset-bits-even : (n x : ℕ) → x < 2 ^ n → cosetBitReversed (suc n) (2 * x) ≡ 2 * reverseBits n x
@@ -177,22 +185,28 @@ coset-bits-back (suc n) k h =
         let shape : 2 ^ suc n - 1 - 2 * reverseBits n x ≡ 2 * (2 ^ n - 1 - reverseBits n x) + 1 = omega (arith, pow-doubled) in
         ap (cosetBitReversed (suc n)) (coset-bits-odd n x b ∙ shape)
         ∙ coset-bits-odd n (2 ^ n - 1 - reverseBits n x) (omega arith)
-        ∙ ap (λ (t : ℕ). 2 ^ suc n - 1 - 2 * t) (reversed-complement n (reverseBits n x) r ∙ ap (λ (t : ℕ). 2 ^ n - 1 - t) (reversed-back n x b))
+        ∙ ap (λ (t : ℕ). 2 ^ suc n - 1 - 2 * t)
+        (reversed-complement n (reverseBits n x) r ∙ ap (λ (t : ℕ). 2 ^ n - 1 - t) (reversed-back n x b))
         ∙ omega (arith, pow-doubled)
 
 pub coset-bits-twice : (n : ℕ) (l : List ℕ) → length l ≡ 2 ^ n → reordered (cosetBitReversed n) (reordered (cosetBitReversed n) l) ≡ l
 coset-bits-twice n l e =
-    reordered-undone (cosetBitReversed n) (cosetBitReversed n) l (λ i h. rw e (coset-bits-below n i)) (λ i h. coset-bits-back n i (subst (λ (m : ℕ). i < m) e h))
+    reordered-undone (cosetBitReversed n) (cosetBitReversed n) l (λ i h. rw e (coset-bits-below n i))
+    (λ i h. coset-bits-back n i (subst (λ (m : ℕ). i < m) e h))
 
 -- the in-place call is the copying call to domain order and then bit reversal
-pub coset-bits-composed : (n : ℕ) (l : List ℕ) → length l ≡ 2 ^ suc n → reordered (cosetBitReversed (suc n)) l ≡ reordered (reverseBits (suc n)) (reordered (toCoset (length l)) l)
+pub coset-bits-composed : (n : ℕ) (l : List ℕ) → length l ≡ 2 ^ suc n
+    → reordered (cosetBitReversed (suc n)) l ≡ reordered (reverseBits (suc n)) (reordered (toCoset (length l)) l)
 unfolding cosetBitReversed
-coset-bits-composed n l e = sym (reordered-twice (reverseBits (suc n)) (toCoset (length l)) (cosetBitReversed (suc n)) l (λ i h. rw e (reversed-below (suc n) i)) to-coset-reversed)
+coset-bits-composed n l e =
+    sym (reordered-twice (reverseBits (suc n)) (toCoset (length l)) (cosetBitReversed (suc n)) l
+    (λ i h. rw e (reversed-below (suc n) i)) to-coset-reversed)
   where
     reversed-is-to-domain : (i : ℕ) → i < 2 ^ suc n → reverseBits (suc n) i ≡ toDomain (length l) (cosetBitReversed (suc n) i)
     reversed-is-to-domain i h =
         let c = cosetBitReversed (suc n) i in
-        let d : toDomain (2 ^ suc n) c < 2 ^ suc n = to-domain-below (2 ^ suc n) (omega (arith, N.pow-succ' 2 n)) c (coset-bits-below (suc n) i) in
+        let d : toDomain (2 ^ suc n) c < 2 ^ suc n =
+        to-domain-below (2 ^ suc n) (omega (arith, N.pow-succ' 2 n)) c (coset-bits-below (suc n) i) in
         ap (reverseBits (suc n)) (sym (coset-bits-back (suc n) i h))
         ∙ reversed-back (suc n) (toDomain (2 ^ suc n) c) d
         ∙ ap (λ (t : ℕ). toDomain t c) (sym e)

@@ -2,7 +2,8 @@
 ghost use mathlib.Core.Path.{_≡_};
 ghost use lib.ListN.{length};
 ghost use Rattle.orders.specs.BitReverse.{reverseBits};
-ghost use Rattle.orders.specs.Orders.{bitReverseIndexAnswer, cosetIndexAnswer, offsetAnswer, previousAnswer, logSize, inPlaceAnswer, inPlaceExit, cosetBitReversed, lengthsFit, copyAnswer, copyExit, toDomain, toCoset};
+ghost use Rattle.orders.specs.Orders.{bitReverseIndexAnswer, cosetIndexAnswer, offsetAnswer, previousAnswer, logSize, inPlaceAnswer};
+ghost use Rattle.orders.specs.Orders.{inPlaceExit, cosetBitReversed, lengthsFit, copyAnswer, copyExit, toDomain, toCoset};
 use fields::answer::U64Answer;
 use fields::answer::WriteAnswer;
 use fields::log_size::inner::two_to;
@@ -23,7 +24,9 @@ pub fn bit_reverse_index(i: u64, log_size: u32) -> U64Answer
 
 // Bit reversal in place.
 pub fn bit_reverse(v: &mut [u32]) -> WriteAnswer
-    ensures { λ r. ⌜ (r ≡ inPlaceAnswer (length (now (v .entry)))) × (now (v .exit) ≡ inPlaceExit (inPlaceAnswer (length (now (v .entry)))) (reverseBits (logSize (length (now (v .entry))))) (now (v .entry))) ⌝ }
+    ensures { λ r. ⌜ (r ≡ inPlaceAnswer (length (now (v .entry))))
+        × (now (v .exit) ≡ inPlaceExit (inPlaceAnswer (length (now (v .entry)))) (reverseBits (logSize (length (now (v .entry)))))
+        (now (v .entry))) ⌝ }
 {
     let log_size = inner::log_size(v.len() as u64);
     if log_size < 64 {
@@ -85,7 +88,9 @@ pub fn coset_index_to_circle_domain_index(coset_index: u64, log_domain_size: u32
 
 // From a coset's natural order to its circle domain's bit-reversed order, in place.
 pub fn bit_reverse_coset_to_circle_domain_order(v: &mut [u32]) -> WriteAnswer
-    ensures { λ r. ⌜ (r ≡ inPlaceAnswer (length (now (v .entry)))) × (now (v .exit) ≡ inPlaceExit (inPlaceAnswer (length (now (v .entry)))) (cosetBitReversed (logSize (length (now (v .entry))))) (now (v .entry))) ⌝ }
+    ensures { λ r. ⌜ (r ≡ inPlaceAnswer (length (now (v .entry))))
+        × (now (v .exit) ≡ inPlaceExit (inPlaceAnswer (length (now (v .entry)))) (cosetBitReversed (logSize (length (now (v .entry)))))
+        (now (v .entry))) ⌝ }
 {
     let log_size = inner::log_size(v.len() as u64);
     if log_size < 64 {
@@ -107,7 +112,9 @@ fn lengths_fit(values: usize, dst: usize) -> bool
 
 // The values of a circle domain, in its order, as those of its coset.
 pub fn circle_domain_order_to_coset_order(values: &[u32], dst: &mut [u32]) -> WriteAnswer
-    ensures { λ r. ⌜ (r ≡ copyAnswer (length (now (values .entry))) (length (now (dst .entry)))) × (now (dst .exit) ≡ copyExit (copyAnswer (length (now (values .entry))) (length (now (dst .entry)))) (toDomain (length (now (values .entry)))) (now (values .entry)) (now (dst .entry))) ⌝ }
+    ensures { λ r. ⌜ (r ≡ copyAnswer (length (now (values .entry))) (length (now (dst .entry))))
+        × (now (dst .exit) ≡ copyExit (copyAnswer (length (now (values .entry))) (length (now (dst .entry))))
+        (toDomain (length (now (values .entry)))) (now (values .entry)) (now (dst .entry))) ⌝ }
 {
     if !lengths_fit(values.len(), dst.len()) {
         return WriteAnswer::Refused(Refusal::Length);
@@ -118,7 +125,9 @@ pub fn circle_domain_order_to_coset_order(values: &[u32], dst: &mut [u32]) -> Wr
 
 // The values of a coset, in its order, as those of its circle domain.
 pub fn coset_order_to_circle_domain_order(values: &[u32], dst: &mut [u32]) -> WriteAnswer
-    ensures { λ r. ⌜ (r ≡ copyAnswer (length (now (values .entry))) (length (now (dst .entry)))) × (now (dst .exit) ≡ copyExit (copyAnswer (length (now (values .entry))) (length (now (dst .entry)))) (toCoset (length (now (values .entry)))) (now (values .entry)) (now (dst .entry))) ⌝ }
+    ensures { λ r. ⌜ (r ≡ copyAnswer (length (now (values .entry))) (length (now (dst .entry))))
+        × (now (dst .exit) ≡ copyExit (copyAnswer (length (now (values .entry))) (length (now (dst .entry))))
+        (toCoset (length (now (values .entry)))) (now (values .entry)) (now (dst .entry))) ⌝ }
 {
     if !lengths_fit(values.len(), dst.len()) {
         return WriteAnswer::Refused(Refusal::Length);

@@ -25,7 +25,8 @@ use Rattle.transform.proofs.Pairs.{written, written-length, written-fir
 
 -- ---- a sum of points by their words, where two of the products are partly reduced
 
-pub step-added : (x y a b xx yy xy yx p q : ℕ) → xx ≡ mulP x a → yy % P ≡ mulP y b → xy ≡ mulP x b → yx % P ≡ mulP y a → p ≡ subP xx yy → q ≡ addP xy yx
+pub step-added : (x y a b xx yy xy yx p q : ℕ) → xx ≡ mulP x a → yy % P ≡ mulP y b → xy ≡ mulP x b → yx % P ≡ mulP y a → p ≡ subP xx yy
+    → q ≡ addP xy yx
     → ((p, q) ≡ plus words31 (x, y) (a, b)) × ((p < P) × (q < P))
 step-added x y a b xx yy xy yx p q e f g h d s =
     let first : p ≡ subP (mulP x a) (mulP y b) = d ∙ sub-partly xx yy (mulP y b) f ∙ ap (λ (t : ℕ). subP t (mulP y b)) e in
@@ -64,7 +65,10 @@ module _ {count c : ℕ} {step : ℕ × ℕ} {level now : List ℕ} (a : Adding 
 
       before : (k : ℕ) → k < c → pointAt after (count + k) ≡ plus words31 (pointAt level k) step
       before k b =
-          (λ i. (written-below now at x y (2 * (count + k)) (omega arith) i, written-below now at x y (2 * (count + k) + 1) (omega arith) i))
+          (λ i. (
+            written-below now at x y (2 * (count + k)) (omega arith) i,
+            written-below now at x y (2 * (count + k) + 1) (omega arith) i,
+          ))
           ∙ a .added k b
 
       same : pointAt now c ≡ pointAt level c
@@ -84,7 +88,8 @@ module _ {count c : ℕ} {step : ℕ × ℕ} {level now : List ℕ} (a : Adding 
 
 -- ---- the last level: every fourth point of the half coset
 
-pub first-point : (n x y : ℕ) (level : List ℕ) → 1 < length level → (x, y) ≡ indexPoint (2 ^ (30 - n)) → Points n 1 (set (set level 0 x) 1 y)
+pub first-point : (n x y : ℕ) (level : List ℕ) → 1 < length level → (x, y) ≡ indexPoint (2 ^ (30 - n))
+    → Points n 1 (set (set level 0 x) 1 y)
 first-point n x y level l e = record {
   each = λ c h.
       let first : c ≡ 0 = omega arith in
@@ -100,9 +105,13 @@ module _ {n : ℕ} {level : List ℕ} (s count : ℕ) (lo : 2 ≤ s) (more : s +
       let bits : s ≡ suc (suc (s - 2)) = omega arith in
       omega (arith, ap (λ (t : ℕ). 2 ^ t) bits, N.two-pow-succ (suc (s - 2)), N.two-pow-succ (s - 2))
 
-  pub points-next : (step : ℕ × ℕ) (exit : List ℕ) → step ≡ indexPoint (2 ^ (30 - s)) → Extended count step level exit → Points n (2 ^ (s + 1 - 2)) exit
+  pub points-next : (step : ℕ × ℕ) (exit : List ℕ) → step ≡ indexPoint (2 ^ (30 - s)) → Extended count step level exit
+      → Points n (2 ^ (s + 1 - 2)) exit
   points-next step exit e x = record {
-    each = λ c h. elim (decLt c count) [ yes l ↦ x .kept c l ∙ p .each c (omega arith) | no g ↦ above c (c - count) (omega arith) (omega (arith, twice)) ];
+    each = λ c h. elim (decLt c count) [
+      | yes l ↦ x .kept c l ∙ p .each c (omega arith)
+      | no g ↦ above c (c - count) (omega arith) (omega (arith, twice))
+    ];
   }
     where
       twice : 2 ^ (s + 1 - 2) ≡ 2 * 2 ^ (s - 2)
@@ -134,7 +143,10 @@ module _ {first b : ℕ} {tree now : List ℕ} (d : Doubling first b tree now) w
       → Doubling first (b + 1) tree (set now (first + b) x)
   doubled-next x room l e = record {
     size = length-set now node x ∙ d .size;
-    doubled = λ j lo hi. elim (decLt j node) [ yes h ↦ getD-set-other now node j x 0 (λ q. omega arith) ∙ d .doubled j lo h | no g ↦ last j (omega arith) ];
+    doubled = λ j lo hi. elim (decLt j node) [
+      | yes h ↦ getD-set-other now node j x 0 (λ q. omega arith) ∙ d .doubled j lo h
+      | no g ↦ last j (omega arith)
+    ];
     kept = λ j h. getD-set-other now node j x 0 (λ q. omega arith) ∙ d .kept j (omega arith);
   }
     where
@@ -155,13 +167,20 @@ module _ (n m above first : ℕ) (tree : List ℕ) (next : above ≡ suc m) (h :
     (two : first ≡ 2 ^ m) (t : LinesFrom n above tree) where
   pub lines-room : 2 * length tree ≡ 2 ^ n → 4 * first ≤ length tree
   lines-room e =
-      omega (arith, N.two-pow-succ m, N.two-pow-succ (suc m), N.two-pow-succ (suc (suc m)), W.pow-mono {i = suc (suc (suc m))} {j = n} (omega arith))
+      omega (
+        arith,
+        N.two-pow-succ m,
+        N.two-pow-succ (suc m),
+        N.two-pow-succ (suc (suc m)),
+        W.pow-mono {i = suc (suc (suc m))} {j = n} (omega arith),
+      )
 
   pub lines-below : (j : ℕ) → 2 * first ≤ j → j < 4 * first → getD tree j 0 < P
   lines-below j lo less =
       let level : 2 ^ above ≡ 2 * first = ap (λ (k : ℕ). 2 ^ k) next ∙ N.pow-succ' 2 m ∙ ap (λ (k : ℕ). 2 * k) (sym two) in
       let place : j ≡ 2 ^ above + (j - 2 ^ above) = omega arith in
-      rw (ap (λ (k : ℕ). getD tree k 0) place ∙ t above (j - 2 ^ above) (omega arith) h (omega arith)) (index-below (halfIndex (above + 2) (2 * (j - 2 ^ above))) .0)
+      rw (ap (λ (k : ℕ). getD tree k 0) place ∙ t above (j - 2 ^ above) (omega arith) h (omega arith))
+      (index-below (halfIndex (above + 2) (2 * (j - 2 ^ above))) .0)
 
   pub lines-next : (exit : List ℕ) → Doubled first tree exit → LinesFrom n m exit
   lines-next exit d k b a l c = elim (decLt m k) [ yes g ↦ kept g | no g ↦ level (omega arith) ]
@@ -176,7 +195,8 @@ module _ (n m above first : ℕ) (tree : List ℕ) (next : above ≡ suc m) (h :
           let size : suc k + 2 ≡ suc (k + 2) = omega arith in
           d .doubled (2 ^ k + b) (omega arith) (omega arith)
           ∙ ap (λ (j : ℕ). doubleX words31 (getD tree j 0)) child
-          ∙ ap (doubleX words31) (t (suc k) (2 * b) (omega arith) (omega arith) (omega (arith, N.two-pow-succ k)) ∙ ap (λ (m : ℕ). halfPoint m (2 * (2 * b)) .0) size)
+          ∙ ap (doubleX words31) (t (suc k) (2 * b) (omega arith) (omega arith) (omega (arith, N.two-pow-succ k))
+          ∙ ap (λ (m : ℕ). halfPoint m (2 * (2 * b)) .0) size)
           ∙ half-double-x (k + 2) (omega arith) (omega arith) (2 * (2 * b))
           ∙ ap (λ (j : ℕ). halfPoint (k + 2) j .0) (omega arith)
 
@@ -231,10 +251,12 @@ module _ (n : ℕ) (tree : List ℕ) (given : (3 ≤ n) × (n ≤ 30) × (2 * le
             even-or-odd b
             (λ e.
             let left : b ≡ 2 * c = omega arith in
-            ap (λ (j : ℕ). getD level j 0) left ∙ ap (λ (q : ℕ × ℕ). q .0) (p .each c (h .1)) ∙ ap (λ (j : ℕ). halfPoint n j .0) (omega arith))
+            ap (λ (j : ℕ). getD level j 0) left ∙ ap (λ (q : ℕ × ℕ). q .0) (p .each c (h .1))
+            ∙ ap (λ (j : ℕ). halfPoint n j .0) (omega arith))
             (λ e.
             let right : b ≡ 2 * c + 1 = omega arith in
-            ap (λ (j : ℕ). getD level j 0) right ∙ ap (λ (q : ℕ × ℕ). q .1) (p .each c (h .1)) ∙ sym (ap (λ (q : ℕ × ℕ). q .0) (half-add-quarter n c (given .0) (given .1)))
+            ap (λ (j : ℕ). getD level j 0) right ∙ ap (λ (q : ℕ × ℕ). q .1) (p .each c (h .1))
+            ∙ sym (ap (λ (q : ℕ × ℕ). q .0) (half-add-quarter n c (given .0) (given .1)))
             ∙ ap (λ (j : ℕ). halfPoint n j .0) (omega arith))
 
     module _ (filled : List ℕ) (long : length filled ≡ length with-level) where

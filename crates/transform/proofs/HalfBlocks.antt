@@ -93,11 +93,13 @@ module _ (c tree : List ℕ) (i k : ℕ) (b : Block c tree i k) (big : 14 < k) (
     pub column-size : length column ≡ half + half
     column-size = sym (reduced-length column) ∙ ap length is ∙ butterflies-length words31 half (getD tree i 0) c halves-size
 
-    partly-block : (d : List ℕ) (j : ℕ) → j ≤ 2 * i + 1 → length d ≡ half → PartlyReduced d → Block (reducedWords d) tree j (k - 1) × PartlyReduced d
+    partly-block : (d : List ℕ) (j : ℕ) → j ≤ 2 * i + 1 → length d ≡ half → PartlyReduced d
+        → Block (reducedWords d) tree j (k - 1) × PartlyReduced d
     partly-block d j h e p = (half-block (reducedWords d) j h (reduced-length d ∙ e) (reduced-below d), p)
 
     pub first-block : Block (reducedWords (take half column)) tree (2 * i) (k - 1) × PartlyReduced (take half column)
-    first-block = partly-block (take half column) (2 * i) (omega arith) (lower-length column half column-size) (partly-take half column partly)
+    first-block =
+        partly-block (take half column) (2 * i) (omega arith) (lower-length column half column-size) (partly-take half column partly)
 
     module _ (p : List ℕ) (same : length p ≡ length (take half column)) where
       abbrev upper : List ℕ
@@ -105,20 +107,25 @@ module _ (c tree : List ℕ) (i k : ℕ) (b : Block c tree i k) (big : 14 < k) (
 
       pub second-block : Block (reducedWords upper) tree (2 * i + 1) (k - 1) × PartlyReduced upper
       second-block =
-          subst (λ (d : List ℕ). Block (reducedWords d) tree (2 * i + 1) (k - 1) × PartlyReduced d) (sym (upper-part column half column-size p same))
-          (partly-block (drop half column) (2 * i + 1) (omega arith) (upper-length column half column-size) (partly-drop half column partly))
+          subst (λ (d : List ℕ). Block (reducedWords d) tree (2 * i + 1) (k - 1) × PartlyReduced d)
+          (sym (upper-part column half column-size p same))
+          (partly-block (drop half column) (2 * i + 1) (omega arith) (upper-length column half column-size)
+          (partly-drop half column partly))
 
       pub block-evaluated : (q : List ℕ) → p ≡ evaluateBlock words31 (k - 1) (nodeTwiddle tree) (2 * i) (reducedWords (take half column))
           → q ≡ evaluateBlock words31 (k - 1) (nodeTwiddle tree) (2 * i + 1) (reducedWords upper)
-          → take half (middle column half column-size p same) ++ (q ++ drop (length (middle column half column-size p same) - half) (drop half (middle column half column-size p same)))
+          → take half (middle column half column-size p same)
+          ++ (q ++ drop (length (middle column half column-size p same) - half) (drop half (middle column half column-size p same)))
           ≡ evaluateBlock words31 k (nodeTwiddle tree) i c
       block-evaluated q ep eq =
           both-halves column half column-size p same q
           ∙ ap₂ _++_ (ep ∙ ap (evaluateBlock words31 (k - 1) (nodeTwiddle tree) (2 * i)) (reduced-take half column))
-          (eq ∙ ap (λ (d : List ℕ). evaluateBlock words31 (k - 1) (nodeTwiddle tree) (2 * i + 1) (reducedWords d)) (upper-part column half column-size p same)
+          (eq ∙ ap (λ (d : List ℕ). evaluateBlock words31 (k - 1) (nodeTwiddle tree) (2 * i + 1) (reducedWords d))
+          (upper-part column half column-size p same)
           ∙ ap (evaluateBlock words31 (k - 1) (nodeTwiddle tree) (2 * i + 1)) (reduced-drop half column))
           ∙ ap (twoBlocks half (evaluateBlock words31 (k - 1) (nodeTwiddle tree)) i) is
-          ∙ ap₂ (λ (h w : ℕ). twoBlocks h (evaluateBlock words31 (k - 1) (nodeTwiddle tree)) i (butterflies words31 h w c)) half-power (line-node tree (k - 1) i (omega arith))
+          ∙ ap₂ (λ (h w : ℕ). twoBlocks h (evaluateBlock words31 (k - 1) (nodeTwiddle tree)) i (butterflies words31 h w c)) half-power
+          (line-node tree (k - 1) i (omega arith))
           ∙ layer-block words31 (nodeTwiddle tree) (k - 1) i c (b .size ∙ pow-two-halves)
           ∙ ap (λ (n : ℕ). evaluateBlock words31 n (nodeTwiddle tree) i c) (sym less)
 
@@ -128,43 +135,54 @@ module _ (c tree : List ℕ) (i k : ℕ) (b : Block c tree i k) (big : 14 < k) (
   lower-block = half-block (take half c) (2 * i) (omega arith) (lower-length c half halves-size) (words-take half c (b .words))
 
   module _ (p : List ℕ) (same : length p ≡ length (take half c)) where
-    pub upper-block : Block (take (length (middle c half halves-size p same) - half) (drop half (middle c half halves-size p same))) tree (2 * i + 1) (k - 1)
+    pub upper-block : Block (take (length (middle c half halves-size p same) - half) (drop half (middle c half halves-size p same))) tree
+        (2 * i + 1) (k - 1)
     upper-block =
         rw (upper-part c half halves-size p same)
         (half-block (drop half c) (2 * i + 1) (omega arith) (upper-length c half halves-size) (words-drop half c (b .words)))
 
     module _ (t : ℕ) (q : List ℕ) (ep : p ≡ scaled words31 t (interpolateBlock words31 (k - 1) (nodeTwiddle tree) (2 * i) (take half c)))
-        (eq : q ≡ scaled words31 t (interpolateBlock words31 (k - 1) (nodeTwiddle tree) (2 * i + 1) (take (length (middle c half halves-size p same) - half) (drop half (middle c half halves-size p same))))) where
+        (eq : q ≡ scaled words31 t
+        (interpolateBlock words31 (k - 1) (nodeTwiddle tree) (2 * i + 1)
+        (take (length (middle c half halves-size p same) - half) (drop half (middle c half halves-size p same))))) where
       abbrev joined : List ℕ
-      joined = take half (middle c half halves-size p same) ++ (q ++ drop (length (middle c half halves-size p same) - half) (drop half (middle c half halves-size p same)))
+      joined = take half (middle c half halves-size p same)
+          ++ (q ++ drop (length (middle c half halves-size p same) - half) (drop half (middle c half halves-size p same)))
 
       abbrev blocks : List ℕ
       blocks = twoBlocks half (interpolateBlock words31 (k - 1) (nodeTwiddle tree)) i c
 
       upper-is : q ≡ scaled words31 t (interpolateBlock words31 (k - 1) (nodeTwiddle tree) (2 * i + 1) (drop half c))
-      upper-is = eq ∙ ap (λ (d : List ℕ). scaled words31 t (interpolateBlock words31 (k - 1) (nodeTwiddle tree) (2 * i + 1) d)) (upper-part c half halves-size p same)
+      upper-is = eq ∙ ap (λ (d : List ℕ). scaled words31 t (interpolateBlock words31 (k - 1) (nodeTwiddle tree) (2 * i + 1) d))
+          (upper-part c half halves-size p same)
 
       joined-is : joined ≡ scaled words31 t blocks
       joined-is =
           both-halves c half halves-size p same q ∙ ap₂ _++_ ep upper-is
-          ∙ sym (scaled-append words31 t (interpolateBlock words31 (k - 1) (nodeTwiddle tree) (2 * i) (take half c)) (interpolateBlock words31 (k - 1) (nodeTwiddle tree) (2 * i + 1) (drop half c)))
+          ∙ sym (scaled-append words31 t (interpolateBlock words31 (k - 1) (nodeTwiddle tree) (2 * i) (take half c))
+          (interpolateBlock words31 (k - 1) (nodeTwiddle tree) (2 * i + 1) (drop half c)))
 
       pub joined-length : length joined ≡ half + half
       joined-length =
           ap length joined-is ∙ scaled-length words31 t blocks
-          ∙ length-append (interpolateBlock words31 (k - 1) (nodeTwiddle tree) (2 * i) (take half c)) (interpolateBlock words31 (k - 1) (nodeTwiddle tree) (2 * i + 1) (drop half c))
+          ∙ length-append (interpolateBlock words31 (k - 1) (nodeTwiddle tree) (2 * i) (take half c))
+          (interpolateBlock words31 (k - 1) (nodeTwiddle tree) (2 * i + 1) (drop half c))
           ∙ ap₂ _+_
-          (interpolate-length words31 (k - 1) (nodeTwiddle tree) (2 * i) (take half c) (lower-length c half halves-size ∙ half-power) ∙ sym half-power)
-          (interpolate-length words31 (k - 1) (nodeTwiddle tree) (2 * i + 1) (drop half c) (upper-length c half halves-size ∙ half-power) ∙ sym half-power)
+          (interpolate-length words31 (k - 1) (nodeTwiddle tree) (2 * i) (take half c) (lower-length c half halves-size ∙ half-power)
+          ∙ sym half-power)
+          (interpolate-length words31 (k - 1) (nodeTwiddle tree) (2 * i + 1) (drop half c) (upper-length c half halves-size ∙ half-power)
+          ∙ sym half-power)
 
       pub joined-words : Words joined
       joined-words w = rw joined-is (words-scaled t blocks w)
 
-      pub block-interpolated : (exit : List ℕ) → exit ≡ inverseButterflies words31 half (getD tree i 0) joined → exit ≡ scaled words31 t (interpolateBlock words31 k (nodeTwiddle tree) i c)
+      pub block-interpolated : (exit : List ℕ) → exit ≡ inverseButterflies words31 half (getD tree i 0) joined
+          → exit ≡ scaled words31 t (interpolateBlock words31 k (nodeTwiddle tree) i c)
       block-interpolated exit e =
           e ∙ ap (inverseButterflies words31 half (getD tree i 0)) joined-is
           ∙ butterflies-multiple half (getD tree i 0) t blocks
           ∙ ap (scaled words31 t)
-          (ap₂ (λ (h w : ℕ). inverseButterflies words31 h w (twoBlocks h (interpolateBlock words31 (k - 1) (nodeTwiddle tree)) i c)) half-power (line-node tree (k - 1) i (omega arith))
+          (ap₂ (λ (h w : ℕ). inverseButterflies words31 h w
+          (twoBlocks h (interpolateBlock words31 (k - 1) (nodeTwiddle tree)) i c)) half-power (line-node tree (k - 1) i (omega arith))
           ∙ inverse-block words31 (nodeTwiddle tree) (k - 1) i c (b .size ∙ pow-two-halves)
           ∙ ap (λ (n : ℕ). interpolateBlock words31 n (nodeTwiddle tree) i c) (sym less))

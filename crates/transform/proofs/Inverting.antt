@@ -90,7 +90,8 @@ module _ {tree : List ℕ} (t : Invertible tree) where
         (λ e. sym (ap₂ mulP (even-beside now i e) (even-beside tree i e)) ∙ v .done (i + 1) (omega arith))
         (λ e.
         let odd : i % 2 ≡ 0 → ⊥ = λ z. omega arith in
-        sym (ap₂ mulP (odd-beside now i odd) (odd-beside tree i odd)) ∙ neg-mul-neg (getD now (i - 1) 0) (getD tree (i - 1) 0) ∙ v .done (i - 1) (omega arith))
+        sym (ap₂ mulP (odd-beside now i odd) (odd-beside tree i odd)) ∙ neg-mul-neg (getD now (i - 1) 0) (getD tree (i - 1) 0)
+        ∙ v .done (i - 1) (omega arith))
 
     -- the children x and y of node i, where 2xy is beside it and s its inverse: 2ys x = 1 and 2xs y = 1
     pub children-inverted : (s a b : ℕ) → 0 < i → 2 * i + 1 < length now → s ≡ beside now i
@@ -121,7 +122,8 @@ module _ {tree : List ℕ} (t : Invertible tree) where
         left : (j : ℕ) → j ≡ 2 * i → mulP (getD after j 0) (getD tree j 0) ≡ 1
         left j q =
             ap (λ (j : ℕ). mulP (getD after j 0) (getD tree j 0)) q
-            ∙ ap (λ (w : ℕ). mulP w x) (written-first now (2 * i) a b (omega arith) ∙ f .0 ∙ ap (λ (y : ℕ). mulP 2 (mulP y s)) (v .kept (2 * i + 1) (omega arith)))
+            ∙ ap (λ (w : ℕ). mulP w x)
+            (written-first now (2 * i) a b (omega arith) ∙ f .0 ∙ ap (λ (y : ℕ). mulP 2 (mulP y s)) (v .kept (2 * i + 1) (omega arith)))
             ∙ solveWords words31 m31 m31-representation (x ∷ y ∷ s ∷ []) (two exprs :* (v1 :* v2) :* v0) (v2 :* (two exprs :* (v0 :* v1)))
             (m31-representation .mul-reduced _ _) (m31-representation .mul-reduced _ _) tt
             ∙ whole
@@ -129,7 +131,8 @@ module _ {tree : List ℕ} (t : Invertible tree) where
         right : (j : ℕ) → j ≡ 2 * i + 1 → mulP (getD after j 0) (getD tree j 0) ≡ 1
         right j q =
             ap (λ (j : ℕ). mulP (getD after j 0) (getD tree j 0)) q
-            ∙ ap (λ (w : ℕ). mulP w y) (written-second now (2 * i) a b room ∙ g .0 ∙ ap (λ (x : ℕ). mulP 2 (mulP x s)) (v .kept (2 * i) (omega arith)))
+            ∙ ap (λ (w : ℕ). mulP w y)
+            (written-second now (2 * i) a b room ∙ g .0 ∙ ap (λ (x : ℕ). mulP 2 (mulP x s)) (v .kept (2 * i) (omega arith)))
             ∙ solveWords words31 m31 m31-representation (x ∷ y ∷ s ∷ []) (two exprs :* (v0 :* v2) :* v1) (v2 :* (two exprs :* (v0 :* v1)))
             (m31-representation .mul-reduced _ _) (m31-representation .mul-reduced _ _) tt
             ∙ whole

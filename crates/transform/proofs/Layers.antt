@@ -77,7 +77,8 @@ module _ (tree : List ℕ) (i k : ℕ) where
 
 -- ---- the twiddles of the pairs
 
-node-circle-twiddle : (tree : List ℕ) (j r m : ℕ) → m ≡ 4 * j + r → r < 4 → nodeTwiddle tree 0 m ≡ circleTwiddle r (getD tree (2 * j) 0) (getD tree (2 * j + 1) 0)
+node-circle-twiddle : (tree : List ℕ) (j r m : ℕ) → m ≡ 4 * j + r → r < 4
+    → nodeTwiddle tree 0 m ≡ circleTwiddle r (getD tree (2 * j) 0) (getD tree (2 * j + 1) 0)
 unfolding nodeTwiddle
 node-circle-twiddle tree j r m e h =
     let node-mod-4 : m % 4 ≡ r = omega arith in
@@ -111,12 +112,15 @@ module _ (tree : List ℕ) (j : ℕ) where
     y-second = sym (node-circle-twiddle tree j 3 (2 * (2 * j + 1) + 1) (omega arith) (omega arith));
   }
 
-evaluate-siblings : (tree : List ℕ) (j : ℕ) (d : List ℕ) → evaluateEight (getD tree (2 * j) 0) (getD tree (2 * j + 1) 0) d ≡ twoBlocks 4 (evaluateBlock words31 2 (nodeTwiddle tree)) j d
+evaluate-siblings : (tree : List ℕ) (j : ℕ) (d : List ℕ)
+    → evaluateEight (getD tree (2 * j) 0) (getD tree (2 * j + 1) 0) d ≡ twoBlocks 4 (evaluateBlock words31 2 (nodeTwiddle tree)) j d
 evaluate-siblings tree j d =
     let s : Siblings tree j = siblings tree j in
     ap₂ _++_
-    (evaluate-two-layers (pairTwiddle (x tree j) (y tree j) (negP (y tree j))) (nodeTwiddle tree) 0 (2 * j) (s .x-fours) (s .x-first) (s .x-second) (take 4 d))
-    (evaluate-two-layers (pairTwiddle (y tree j) (negP (x tree j)) (x tree j)) (nodeTwiddle tree) 0 (2 * j + 1) (s .y-fours) (s .y-first) (s .y-second) (drop 4 d))
+    (evaluate-two-layers (pairTwiddle (x tree j) (y tree j) (negP (y tree j))) (nodeTwiddle tree) 0 (2 * j) (s .x-fours) (s .x-first)
+    (s .x-second) (take 4 d))
+    (evaluate-two-layers (pairTwiddle (y tree j) (negP (x tree j)) (x tree j)) (nodeTwiddle tree) 0 (2 * j + 1) (s .y-fours) (s .y-first)
+    (s .y-second) (drop 4 d))
 
 -- ---- evaluation
 
@@ -131,7 +135,8 @@ module _ (column₀ tree : List ℕ) (i k : ℕ) (b : Block column₀ tree i k) 
     pub parts : Parts tree i k t count node
     pub low : 2 ≤ t
     pub same : length column ≡ length column₀
-    pub todo : blocks count (2 ^ t) (evaluateBlock words31 t (nodeTwiddle tree)) node column ≡ evaluateBlock words31 k (nodeTwiddle tree) i column₀
+    pub todo : blocks count (2 ^ t) (evaluateBlock words31 t (nodeTwiddle tree)) node column ≡ evaluateBlock words31 k
+        (nodeTwiddle tree) i column₀
 
   pub left-start : Left k 1 i column₀
   left-start = record {
@@ -163,11 +168,15 @@ module _ (column₀ tree : List ℕ) (i k : ℕ) (b : Block column₀ tree i k) 
       left-next exit is = record {
         parts = parts-halved tree i k t count node (l .parts) s suc-s;
         low = omega arith;
-        same = ap length is ∙ blocks-length count (half + half) F (λ j d. butterflies-length words31 half (getD tree j 0) d) node column (omega (arith, left-size)) ∙ l .same;
+        same = ap length is ∙ blocks-length count (half + half) F (λ j d. butterflies-length words31 half (getD tree j 0) d) node column
+            (omega (arith, left-size)) ∙ l .same;
         todo = ap (blocks (2 * count) (2 ^ s) (evaluateBlock words31 s (nodeTwiddle tree)) (2 * node)) (is ∙ as-layer)
-            ∙ ap (λ (n : ℕ). blocks n (2 ^ s) (evaluateBlock words31 s (nodeTwiddle tree)) (2 * node) (blocks count (2 ^ s + 2 ^ s) (λ j. butterflies words31 (2 ^ s) (nodeTwiddle tree s j)) node column)) (omega arith)
-            ∙ evaluate-layer words31 (nodeTwiddle tree) s count node column (omega (arith, left-size, ap (λ (n : ℕ). count * n) (sym double ∙ ap (λ (d : ℕ). 2 ^ d) suc-s ∙ N.two-pow-succ s)))
-            ∙ ap (λ (n : ℕ). blocks count n (evaluateBlock words31 (suc s) (nodeTwiddle tree)) node column) (sym (ap (λ (d : ℕ). 2 ^ d) suc-s ∙ N.two-pow-succ s))
+            ∙ ap (λ (n : ℕ). blocks n (2 ^ s) (evaluateBlock words31 s (nodeTwiddle tree)) (2 * node)
+            (blocks count (2 ^ s + 2 ^ s) (λ j. butterflies words31 (2 ^ s) (nodeTwiddle tree s j)) node column)) (omega arith)
+            ∙ evaluate-layer words31 (nodeTwiddle tree) s count node column
+            (omega (arith, left-size, ap (λ (n : ℕ). count * n) (sym double ∙ ap (λ (d : ℕ). 2 ^ d) suc-s ∙ N.two-pow-succ s)))
+            ∙ ap (λ (n : ℕ). blocks count n (evaluateBlock words31 (suc s) (nodeTwiddle tree)) node column)
+            (sym (ap (λ (d : ℕ). 2 ^ d) suc-s ∙ N.two-pow-succ s))
             ∙ ap (λ (n : ℕ). blocks count (2 ^ t) (evaluateBlock words31 n (nodeTwiddle tree)) node column) (sym suc-s)
             ∙ l .todo;
       }
@@ -175,10 +184,12 @@ module _ (column₀ tree : List ℕ) (i k : ℕ) (b : Block column₀ tree i k) 
           F : ℕ → List ℕ → List ℕ
           F j = butterflies words31 half (getD tree j 0)
 
-          as-layer : blocks count (half + half) F node column ≡ blocks count (2 ^ s + 2 ^ s) (λ j. butterflies words31 (2 ^ s) (nodeTwiddle tree s j)) node column
+          as-layer : blocks count (half + half) F node column ≡ blocks count (2 ^ s + 2 ^ s)
+              (λ j. butterflies words31 (2 ^ s) (nodeTwiddle tree s j)) node column
           as-layer =
               ap (λ (n : ℕ). blocks count (n + n) (λ j. butterflies words31 n (getD tree j 0)) node column) two
-              ∙ ap (λ (f : ℕ → ℕ). blocks count (2 ^ s + 2 ^ s) (λ j. butterflies words31 (2 ^ s) (f j)) node column) (λ q j. line-node tree s j (omega arith) q)
+              ∙ ap (λ (f : ℕ → ℕ). blocks count (2 ^ s + 2 ^ s) (λ j. butterflies words31 (2 ^ s) (f j)) node column)
+              (λ q j. line-node tree s j (omega arith) q)
 
     -- the last two layers
     module _ (last : t ≤ 2) where
@@ -197,13 +208,16 @@ module _ (column₀ tree : List ℕ) (i k : ℕ) (b : Block column₀ tree i k) 
       pub eights-room : 2 * (node / 2 + count / 2) ≤ length tree
       eights-room = omega (arith, left-nodes, whole, node-even tree i k t count node (l .parts) below)
 
-      pub left-end : (exit : List ℕ) → exit ≡ blocks (count / 2) 8 (λ j. evaluateEight (getD tree (2 * j) 0) (getD tree (2 * j + 1) 0)) (node / 2) column
+      pub left-end : (exit : List ℕ)
+          → exit ≡ blocks (count / 2) 8 (λ j. evaluateEight (getD tree (2 * j) 0) (getD tree (2 * j + 1) 0)) (node / 2) column
           → exit ≡ evaluateBlock words31 k (nodeTwiddle tree) i column₀
       left-end exit is =
           is
-          ∙ blocks-equal (count / 2) 8 (λ j. evaluateEight (getD tree (2 * j) 0) (getD tree (2 * j + 1) 0)) (twoBlocks 4 (evaluateBlock words31 2 (nodeTwiddle tree)))
+          ∙ blocks-equal (count / 2) 8 (λ j. evaluateEight (getD tree (2 * j) 0) (getD tree (2 * j + 1) 0))
+          (twoBlocks 4 (evaluateBlock words31 2 (nodeTwiddle tree)))
           (λ j d e. evaluate-siblings tree j d) (node / 2) column (omega (arith, eights-size))
           ∙ sym (blocks-pair (count / 2) 4 (evaluateBlock words31 2 (nodeTwiddle tree)) (node / 2) column (omega (arith, eights-size)))
-          ∙ ap₂ (λ (m n : ℕ). blocks m 4 (evaluateBlock words31 2 (nodeTwiddle tree)) n column) (sym whole) (sym (node-even tree i k t count node (l .parts) below))
+          ∙ ap₂ (λ (m n : ℕ). blocks m 4 (evaluateBlock words31 2 (nodeTwiddle tree)) n column) (sym whole)
+          (sym (node-even tree i k t count node (l .parts) below))
           ∙ ap (λ (d : ℕ). blocks count (2 ^ d) (evaluateBlock words31 d (nodeTwiddle tree)) node column) (sym two-left)
           ∙ l .todo

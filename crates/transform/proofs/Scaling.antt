@@ -39,7 +39,8 @@ module _ (a s : ℕ) (h : a ≤ P) (hi : s < 31) where
 
   shifted : a * 2 ^ s % 4294967296 % 2147483648 ≡ lower * 2 ^ s
   shifted =
-      let small : lower * 2 ^ s < 2147483648 = omega (arith, N.mul-lt-mul-of-pos-right (N.mod-lt a (W.pow-pos (31 - s))) (W.pow-pos s), powers) in
+      let small : lower * 2 ^ s < 2147483648 =
+      omega (arith, N.mul-lt-mul-of-pos-right (N.mod-lt a (W.pow-pos (31 - s))) (W.pow-pos s), powers) in
       W.mod-mod-pow (a * 2 ^ s) 1 31 ∙ ap (λ (n : ℕ). n % 2147483648) product ∙ digits-mod upper small
 
   -- the bits rotated by s places
@@ -56,7 +57,8 @@ module _ (a s : ℕ) (h : a ≤ P) (hi : s < 31) where
   pub rotated-bits : rotated % P ≡ mulP a (2 ^ s)
   rotated-bits =
       let once : upper * 2147483648 + lower * 2 ^ s ≡ upper * P + (lower * 2 ^ s + upper) = omega arith in
-      ap (λ (n : ℕ). (n + upper) % P) shifted ∙ sym (ap (λ (n : ℕ). n % P) (product ∙ once) ∙ N.mul-add-mod-self-right upper P (lower * 2 ^ s + upper))
+      ap (λ (n : ℕ). (n + upper) % P) shifted
+      ∙ sym (ap (λ (n : ℕ). n % P) (product ∙ once) ∙ N.mul-add-mod-self-right upper P (lower * 2 ^ s + upper))
 
 -- ---- a column in the middle of a loop: its first i words are scaled
 
@@ -114,12 +116,14 @@ module _ (t : ℕ) (c : List ℕ) where
 sum-multiple : (t x y : ℕ) → inverseSum words31 (mulP x t) (mulP y t) ≡ mulP (inverseSum words31 x y) t
 unfolding inverseSum
 sum-multiple t x y =
-    solveWords words31 m31 m31-representation (t ∷ x ∷ y ∷ []) (v1 :* v0 :+ v2 :* v0) ((v1 :+ v2) :* v0) (m31-representation .add-reduced _ _) (m31-representation .mul-reduced _ _) tt
+    solveWords words31 m31 m31-representation (t ∷ x ∷ y ∷ []) (v1 :* v0 :+ v2 :* v0) ((v1 :+ v2) :* v0)
+    (m31-representation .add-reduced _ _) (m31-representation .mul-reduced _ _) tt
 
 difference-multiple : (w t x y : ℕ) → inverseDifference words31 w (mulP x t) (mulP y t) ≡ mulP (inverseDifference words31 w x y) t
 unfolding inverseDifference
 difference-multiple w t x y =
-    solveWords words31 m31 m31-representation (t ∷ x ∷ y ∷ w ∷ []) ((v1 :* v0 :+ :- (v2 :* v0)) :* v3) ((v1 :+ :- v2) :* v3 :* v0) (m31-representation .mul-reduced _ _) (m31-representation .mul-reduced _ _) tt
+    solveWords words31 m31 m31-representation (t ∷ x ∷ y ∷ w ∷ []) ((v1 :* v0 :+ :- (v2 :* v0)) :* v3) ((v1 :+ :- v2) :* v3 :* v0)
+    (m31-representation .mul-reduced _ _) (m31-representation .mul-reduced _ _) tt
 
 halves-multiple : (f : ℕ → ℕ → ℕ) (t half : ℕ) (c : List ℕ) → ((x y : ℕ) → f (mulP x t) (mulP y t) ≡ mulP (f x y) t)
     → onHalves f half (scaled words31 t c) ≡ scaled words31 t (onHalves f half c)
@@ -129,8 +133,10 @@ halves-multiple f t half c h =
     ∙ zip-equal (λ (x y : ℕ). f (mulP x t) (mulP y t)) (λ (x y : ℕ). mulP (f x y) t) h (take half c) (drop half c)
     ∙ sym (scaled-zip words31 t f (take half c) (drop half c))
 
-pub butterflies-multiple : (half w t : ℕ) (c : List ℕ) → inverseButterflies words31 half w (scaled words31 t c) ≡ scaled words31 t (inverseButterflies words31 half w c)
+pub butterflies-multiple : (half w t : ℕ) (c : List ℕ)
+    → inverseButterflies words31 half w (scaled words31 t c) ≡ scaled words31 t (inverseButterflies words31 half w c)
 unfolding inverseButterflies
 butterflies-multiple half w t c =
-    ap₂ _++_ (halves-multiple (inverseSum words31) t half c (sum-multiple t)) (halves-multiple (inverseDifference words31 w) t half c (difference-multiple w t))
+    ap₂ _++_ (halves-multiple (inverseSum words31) t half c (sum-multiple t))
+    (halves-multiple (inverseDifference words31 w) t half c (difference-multiple w t))
     ∙ sym (scaled-append words31 t (onHalves (inverseSum words31) half c) (onHalves (inverseDifference words31 w) half c))

@@ -47,7 +47,8 @@ two-reduced (x ∷ y ∷ z ∷ l) e a b ea eb = absurd (omega arith)
 pub two-evaluated : (c r : List ℕ) → Column 1 c → r ≡ butterflies words31 1 (P - 1) c → r ≡ valuesOf 1 c
 two-evaluated c r h e =
     e ∙ as-block (λ t i. P - 1) 1 c
-    ∙ tree-values 1 (omega arith) (omega arith) (λ t i. P - 1) two-holds c (h .size) (words-evaluate 1 (λ t i. P - 1) 1 c (column-words 1 c h))
+    ∙ tree-values 1 (omega arith) (omega arith) (λ t i. P - 1) two-holds c (h .size)
+    (words-evaluate 1 (λ t i. P - 1) 1 c (column-words 1 c h))
 
 as-inverse-block : (tw : ℕ → ℕ → ℕ) (i : ℕ) (c : List ℕ) → inverseButterflies words31 1 (tw 0 i) c ≡ interpolateBlock words31 1 tw i c
 unfolding inverseButterflies interpolateBlock
@@ -89,12 +90,14 @@ module _ (x : ℕ) (is : x ≡ halfPoint 2 0 .0) where
   unfolding pairTwiddle
   four-evaluated-values c r h e =
       e ∙ evaluate-two-layers (pairTwiddle x (negP x) x) (pairTwiddle x (negP x) x) 0 1 refl refl refl c
-      ∙ tree-values 2 (omega arith) (omega arith) (pairTwiddle x (negP x) x) four-holds c (h .size) (words-evaluate 2 (pairTwiddle x (negP x) x) 1 c (column-words 2 c h))
+      ∙ tree-values 2 (omega arith) (omega arith) (pairTwiddle x (negP x) x) four-holds c (h .size)
+      (words-evaluate 2 (pairTwiddle x (negP x) x) 1 c (column-words 2 c h))
 
   -- 1 / x is 2x
   doubled-inverse : mulP (addP x x) x ≡ 1
   doubled-inverse =
-      solveWords words31 m31 m31-representation (x ∷ []) ((v0 :+ v0) :* v0) (two exprs :* (v0 :* v0)) (m31-representation .mul-reduced _ _) (m31-representation .mul-reduced _ _) tt
+      solveWords words31 m31 m31-representation (x ∷ []) ((v0 :+ v0) :* v0) (two exprs :* (v0 :* v0)) (m31-representation .mul-reduced _ _)
+      (m31-representation .mul-reduced _ _) tt
       ∙ root-square x is
 
   four-inverse : (s d : ℕ) → s + suc d ≡ 2 → (j : ℕ) → j < 2 ^ d
@@ -107,7 +110,8 @@ module _ (x : ℕ) (is : x ≡ halfPoint 2 0 .0) where
   four-inverse zero (suc (suc d)) e j h = absurd (omega arith)
   four-inverse (suc s) d e j h = doubled-inverse
 
-  pub four-interpolated-values : (c r : List ℕ) → Column 2 c → reducedWords r ≡ interpolateBlock words31 2 (pairTwiddle (addP x x) (negP (addP x x)) (addP x x)) 0 (reducedWords c)
+  pub four-interpolated-values : (c r : List ℕ) → Column 2 c
+      → reducedWords r ≡ interpolateBlock words31 2 (pairTwiddle (addP x x) (negP (addP x x)) (addP x x)) 0 (reducedWords c)
       → PartlyReduced r → Unscaled 2 c r
   unfolding pairTwiddle
   four-interpolated-values c r h e p =
@@ -115,9 +119,12 @@ module _ (x : ℕ) (is : x ≡ halfPoint 2 0 .0) where
       let same : reducedWords c ≡ c = reduced-same c (column-words 2 c h) in
       record {
         words = p;
-        coefficients = tree-coefficients 2 (omega arith) (omega arith) tv (holds-inverse 2 (pairTwiddle x (negP x) x) tv four-holds four-inverse)
+        coefficients =
+            tree-coefficients 2 (omega arith) (omega arith) tv (holds-inverse 2 (pairTwiddle x (negP x) x) tv four-holds four-inverse)
             c (scaled words31 (2 ^ 29) r) h
-            (scaled-reduced (2 ^ 29) r ∙ ap (scaled words31 (2 ^ 29)) (e ∙ ap (interpolateBlock words31 2 tv 0) same ∙ interpolate-two-layers tv tv 0 1 refl refl refl c))
+            (scaled-reduced (2 ^ 29) r
+            ∙ ap (scaled words31 (2 ^ 29))
+            (e ∙ ap (interpolateBlock words31 2 tv 0) same ∙ interpolate-two-layers tv tv 0 1 refl refl refl c))
             (words-scaled (2 ^ 29) r);
       }
 

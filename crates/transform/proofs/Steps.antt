@@ -25,7 +25,8 @@ by-points C count each j h =
     (λ e. let at : j ≡ 2 * (j / 2) = omega arith in subst C (sym at) (each (j / 2) (omega arith) .0))
     (λ e. let at : j ≡ 2 * (j / 2) + 1 = omega arith in subst C (sym at) (each (j / 2) (omega arith) .1))
 
-pub first-step : (s : ℕ) (step : ℕ × ℕ) (level : List ℕ) → 1 ≤ s → s < 2 → getD level 0 0 < P → getD level 1 0 < P → Stepped s step level level
+pub first-step : (s : ℕ) (step : ℕ × ℕ) (level : List ℕ) → 1 ≤ s → s < 2 → getD level 0 0 < P → getD level 1 0 < P
+    → Stepped s step level level
 first-step s step level lo hi x y = record {
   below = λ j h. by-points (λ j. getD level j 0 < P) 1 (λ c l. only c (omega arith)) j (omega (arith, two));
   points = λ n a b e p. subst (λ (k : ℕ). Points n k level) (sym none) p;
@@ -54,9 +55,12 @@ module _ (s count : ℕ) (step twice : ℕ × ℕ) (level middle exit : List ℕ
       let bits : s ≡ suc (s - 1) = omega arith in
       omega (arith, half-points, ap (λ (t : ℕ). 2 ^ t) bits ∙ N.pow-succ' 2 (s - 1))
 
-  pub next-step : twice ≡ indexPoint (2 ^ (31 - s)) → Stepped (s - 1) twice level middle → Extended count step middle exit → Stepped s step level exit
+  pub next-step : twice ≡ indexPoint (2 ^ (31 - s)) → Stepped (s - 1) twice level middle → Extended count step middle exit
+      → Stepped s step level exit
   next-step e t x = record {
-    below = λ j h. by-points (λ j. getD exit j 0 < P) (2 * count) (λ c l. elim (decLt c count) [ yes b ↦ kept c b | no g ↦ added c (c - count) (omega arith) (omega arith) ]) j (omega (arith, all-points));
+    below = λ j h. by-points (λ j. getD exit j 0 < P) (2 * count)
+        (λ c l. elim (decLt c count) [ yes b ↦ kept c b | no g ↦ added c (c - count) (omega arith) (omega arith) ]) j
+        (omega (arith, all-points));
     points = λ n a b f p.
         let before : Points n (2 ^ (s - 2)) middle =
         subst (λ (k : ℕ). Points n (2 ^ k) middle) less (t .points n (omega arith) b (e ∙ ap (λ (k : ℕ). indexPoint (2 ^ k)) bit) p) in
@@ -74,13 +78,17 @@ module _ (s count : ℕ) (step twice : ℕ × ℕ) (level middle exit : List ℕ
 
       kept : (c : ℕ) → c < count → (getD exit (2 * c) 0 < P) × (getD exit (2 * c + 1) 0 < P)
       kept c b =
-          let point : pointAt exit c ≡ pointAt middle c = x .kept c b in
-          (rw (ap (λ (p : ℕ × ℕ). p .0) point) (t .below (2 * c) (omega (arith, half-points))), rw (ap (λ (p : ℕ × ℕ). p .1) point) (t .below (2 * c + 1) (omega (arith, half-points))))
+          let point : pointAt exit c ≡ pointAt middle c = x .kept c b in (
+            rw (ap (λ (p : ℕ × ℕ). p .0) point) (t .below (2 * c) (omega (arith, half-points))),
+            rw (ap (λ (p : ℕ × ℕ). p .1) point) (t .below (2 * c + 1) (omega (arith, half-points))),
+          )
 
       added : (c d : ℕ) → c ≡ count + d → d < count → (getD exit (2 * c) 0 < P) × (getD exit (2 * c + 1) 0 < P)
       added c d q l =
-          let point : pointAt exit c ≡ plus words31 (pointAt middle d) step = ap (pointAt exit) q ∙ x .added d l in
-          (rw (ap (λ (p : ℕ × ℕ). p .0) point) (m31-representation .add-reduced _ _), rw (ap (λ (p : ℕ × ℕ). p .1) point) (m31-representation .add-reduced _ _))
+          let point : pointAt exit c ≡ plus words31 (pointAt middle d) step = ap (pointAt exit) q ∙ x .added d l in (
+            rw (ap (λ (p : ℕ × ℕ). p .0) point) (m31-representation .add-reduced _ _),
+            rw (ap (λ (p : ℕ × ℕ). p .1) point) (m31-representation .add-reduced _ _),
+          )
 
 -- ---- the whole level, from its first point (x, y) of index 2^(30 - n)
 

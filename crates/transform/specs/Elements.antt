@@ -21,7 +21,8 @@ use Rattle.domains.specs.Doubled.{half-y-nonzero, half-x-nonzero}
 use Rattle.column.specs.Column.{sum, combination, values}
 use Rattle.column.specs.Butterflies.{evaluateBlock, interpolateBlock, scaled}
 use Rattle.column.specs.Inverse.{Inverses}
-use Rattle.column.specs.OneList.{OneList, Twiddles, values-length, values-at, evaluate-values, interpolation-length, values-interpolation, one-list}
+use Rattle.column.specs.OneList.{OneList, Twiddles, values-length, values-at, evaluate-values}
+use Rattle.column.specs.OneList.{interpolation-length, values-interpolation, one-list}
 use Rattle.column.specs.Homomorphism.{to-factor, to-values, to-way, to-evaluate, to-interpolate, to-scaled}
 use Rattle.column.specs.Tree.{HoldsTwiddles, tree-evaluate, tree-interpolate}
 use Rattle.transform.specs.Transform.{positionPoint, valuesOf, Column, Coefficients}
@@ -120,7 +121,8 @@ module _ (n : ℕ) (lo : 1 ≤ n) (hi : n ≤ 30) where
       sum-bits = omega arith
 
       halved-times-power : mulP (halved n) (powP 2 n) ≡ 1
-      halved-times-power = mul-mod-mod (halved n) (2 ^ n) P ∙ ap (λ (a : ℕ). a % P) (sym (W.pow-add 2 (31 - n) n) ∙ ap (λ (a : ℕ). 2 ^ a) sum-bits)
+      halved-times-power =
+          mul-mod-mod (halved n) (2 ^ n) P ∙ ap (λ (a : ℕ). a % P) (sym (W.pow-add 2 (31 - n) n) ∙ ap (λ (a : ℕ). 2 ^ a) sum-bits)
 
   -- ---- evaluation and interpolation of words
 
@@ -137,10 +139,16 @@ module _ (n : ℕ) (lo : 1 ≤ n) (hi : n ≤ 30) where
     pub tree-coefficients : HoldsTwiddles m31 n (λ t i. element (tree t i)) (fieldInverse n) → (v r : List ℕ) → Column n v
         → r ≡ scaled words31 (halved n) (interpolateBlock words31 n tree 1 v) → Words r → Coefficients n r v
     tree-coefficients holds v r h e w = record {
-      column = record { size = sym (length-map r element) ∙ ap length is ∙ interpolation-length m31 m31-laws n (fieldPoint n) (fieldTwiddle n) field-twiddles (fieldInverse n) field-inverses (element (halved n)) halved-inverse (elements v) size; below = λ k l. w k };
+      column = record {
+        size = sym (length-map r element) ∙ ap length is
+            ∙ interpolation-length m31 m31-laws n (fieldPoint n) (fieldTwiddle n) field-twiddles (fieldInverse n) field-inverses
+            (element (halved n)) halved-inverse (elements v) size;
+        below = λ k l. w k;
+      };
       give = words-equal (valuesOf n r) v (values-below n r) (column-words n v h)
           (elements-values n r ∙ ap (values m31 n (fieldPoint n)) is
-          ∙ values-interpolation m31 m31-laws n (fieldPoint n) (fieldTwiddle n) field-twiddles (fieldInverse n) field-inverses (element (halved n)) halved-inverse (elements v) size);
+          ∙ values-interpolation m31 m31-laws n (fieldPoint n) (fieldTwiddle n) field-twiddles (fieldInverse n) field-inverses
+          (element (halved n)) halved-inverse (elements v) size);
     }
       where
         size : length (elements v) ≡ 2 ^ n
@@ -156,4 +164,5 @@ module _ (n : ℕ) (lo : 1 ≤ n) (hi : n ≤ 30) where
   -- exactly one list over the field
   pub field-one-list : (v : List (Z P)) → length v ≡ 2 ^ n → OneList m31 n (fieldPoint n) v
   field-one-list =
-      one-list m31 m31-laws n (fieldPoint n) (fieldTwiddle n) field-twiddles (fieldInverse n) field-inverses (element (halved n)) halved-inverse
+      one-list m31 m31-laws n (fieldPoint n) (fieldTwiddle n) field-twiddles (fieldInverse n) field-inverses
+      (element (halved n)) halved-inverse

@@ -37,12 +37,14 @@ use Rattle.circle.specs.Index.{ofIndex, indexPoint, toPointAnswer}
 use Rattle.circle.specs.declared.point.CirclePointAnswer.the-variants as P
 use Rattle.circle.specs.declared.index.CirclePointIndexAnswer.the-variants as I
 use Rattle.orders.specs.BitReverse.{reverseBits}
-use Rattle.orders.specs.Orders.{logSize, inPlaceAnswer, inPlaceExit, wordsAt, cosetBitReversed, toDomain, offsetAnswer, offsetElement, previousAnswer}
+use Rattle.orders.specs.Orders.{logSize, inPlaceAnswer, inPlaceExit, wordsAt, cosetBitReversed}
+use Rattle.orders.specs.Orders.{toDomain, offsetAnswer, offsetElement, previousAnswer}
 use Rattle.domains.specs.declared.coset.CosetAnswer.the-variants as K
 use Rattle.domains.specs.declared.domain.CircleDomainAnswer.the-variants as D
 use Rattle.domains.specs.Listing.{unit, cosetIndex, domainIndices}
 use Rattle.domains.specs.Record.{check, checkTwo}
-use Rattle.domains.specs.Coset.{cosetOf, newAnswer, subgroupAnswer, doubled, doubleAnswer, repeatedDoubleAnswer, sameCoset, isDoublingOf, isDoublingOfAnswer}
+use Rattle.domains.specs.Coset.{cosetOf, newAnswer, subgroupAnswer, doubled, doubleAnswer}
+use Rattle.domains.specs.Coset.{repeatedDoubleAnswer, sameCoset, isDoublingOf, isDoublingOfAnswer}
 use Rattle.domains.specs.CosetLaws.{fits-hold, two-hold, made-fits}
 use Rattle.domains.specs.CanonicDomain.{canonic-domain}
 use Rattle.domains.specs.Domain.{ofHalf, indexAtAnswer, isCanonicAnswer}
@@ -178,12 +180,14 @@ abbrev eight : List ℕ
 eight = 0 ∷ 1 ∷ 2 ∷ 3 ∷ 4 ∷ 5 ∷ 6 ∷ 7 ∷ []
 
 -- `bit_reverse`: 0..7 becomes 0 4 2 6 1 5 3 7
-pub bits-of-eight : inPlaceExit (inPlaceAnswer (length eight)) (reverseBits (logSize (length eight))) eight ≡ 0 ∷ 4 ∷ 2 ∷ 6 ∷ 1 ∷ 5 ∷ 3 ∷ 7 ∷ []
+pub bits-of-eight : inPlaceExit (inPlaceAnswer (length eight)) (reverseBits (logSize (length eight))) eight
+    ≡ 0 ∷ 4 ∷ 2 ∷ 6 ∷ 1 ∷ 5 ∷ 3 ∷ 7 ∷ []
 unfolding inPlaceAnswer inPlaceExit first wordsAt reverseBits
 bits-of-eight = refl
 
 -- `bit_reverse_coset_to_circle_domain_order`: 0..7 becomes 0 7 4 3 2 5 6 1
-pub coset-bits-of-eight : inPlaceExit (inPlaceAnswer (length eight)) (cosetBitReversed (logSize (length eight))) eight ≡ 0 ∷ 7 ∷ 4 ∷ 3 ∷ 2 ∷ 5 ∷ 6 ∷ 1 ∷ []
+pub coset-bits-of-eight : inPlaceExit (inPlaceAnswer (length eight)) (cosetBitReversed (logSize (length eight))) eight
+    ≡ 0 ∷ 7 ∷ 4 ∷ 3 ∷ 2 ∷ 5 ∷ 6 ∷ 1 ∷ []
 unfolding inPlaceAnswer inPlaceExit first wordsAt cosetBitReversed reverseBits toDomain
 coset-bits-of-eight = refl
 
@@ -246,7 +250,8 @@ sevens-accepted scratch room =
 
 pub sevens-interpolated : (scratch : ℕ) (exit : List ℕ) → transformAnswer 2 (7 ∷ 7 ∷ 7 ∷ 7 ∷ []) scratch ≡ Written
     → InterpolateExit (transformAnswer 2 (7 ∷ 7 ∷ 7 ∷ 7 ∷ []) scratch) 2 (7 ∷ 7 ∷ 7 ∷ 7 ∷ []) exit → exit ≡ 7 ∷ 0 ∷ 0 ∷ 0 ∷ []
-sevens-interpolated scratch exit e left = promise .interpolated scratch exit e left ∙ sym (promise .only (7 ∷ 0 ∷ 0 ∷ 0 ∷ []) sevens-coefficients)
+sevens-interpolated scratch exit e left =
+    promise .interpolated scratch exit e left ∙ sym (promise .only (7 ∷ 0 ∷ 0 ∷ 0 ∷ []) sevens-coefficients)
   where
     promise : Promise 2 (7 ∷ 7 ∷ 7 ∷ 7 ∷ [])
     promise = theorem 2 (lit≤ tt) (lit≤ tt) (7 ∷ 7 ∷ 7 ∷ 7 ∷ []) four-sevens

@@ -14,7 +14,8 @@ use Rattle.column.specs.Column.{values}
 use Rattle.column.specs.OneList.{OneList}
 use Rattle.transform.specs.Transform.{valuesOf, Column, Coefficients, transformAnswer, evaluateExit, InterpolateExit}
 use Rattle.transform.specs.Accepted.{accepted, is-accepted}
-use Rattle.transform.specs.Elements.{elements, words, words-equal, elements-words, words-below, column-words, values-below, fieldPoint, elements-values, field-one-list}
+use Rattle.transform.specs.Elements.{elements, words, words-equal, elements-words, words-below, column-words}
+use Rattle.transform.specs.Elements.{values-below, fieldPoint, elements-values, field-one-list}
 
 -- `theorem` proves it for every n from 1 to 30 and every column of values
 pub record Promise (n : ℕ) (v : List ℕ) : Type 0 where
@@ -51,13 +52,15 @@ module _ (n : ℕ) (lo : 1 ≤ n) (hi : n ≤ 30) where
     give = record {
       column = record { size = length-map (one .coefficients) _ ∙ one .size; below = λ k l. words-below (one .coefficients) k };
       give = words-equal (valuesOf n (words (one .coefficients))) v (values-below n (words (one .coefficients))) (column-words n v h)
-          (elements-values n (words (one .coefficients)) ∙ ap (values m31 n (fieldPoint n)) (elements-words (one .coefficients)) ∙ one .gives);
+          (elements-values n (words (one .coefficients))
+          ∙ ap (values m31 n (fieldPoint n)) (elements-words (one .coefficients)) ∙ one .gives);
     }
 
     only : (c : List ℕ) → Coefficients n c v → c ≡ words (one .coefficients)
     only c k =
         words-equal c (words (one .coefficients)) (column-words n c (k .column)) (words-below (one .coefficients))
-        (one .only (elements c) (length-map c _ ∙ k .column .size) (sym (elements-values n c) ∙ ap elements (k .give)) ∙ sym (elements-words (one .coefficients)))
+        (one .only (elements c) (length-map c _ ∙ k .column .size) (sym (elements-values n c) ∙ ap elements (k .give))
+        ∙ sym (elements-words (one .coefficients)))
 
     pub theorem : Promise n v
     unfolding evaluateExit InterpolateExit

@@ -100,11 +100,13 @@ pairTwiddle w v u (suc t) i = w
 -- two layers on eight words, below the nodes that hold x and y
 abbrev pub evaluateEight : ℕ → ℕ → List ℕ → List ℕ
 evaluateEight x y block =
-    evaluateBlock words31 2 (pairTwiddle x y (negP y)) 0 (take 4 block) ++ evaluateBlock words31 2 (pairTwiddle y (negP x) x) 0 (drop 4 block)
+    evaluateBlock words31 2 (pairTwiddle x y (negP y)) 0 (take 4 block)
+    ++ evaluateBlock words31 2 (pairTwiddle y (negP x) x) 0 (drop 4 block)
 
 abbrev pub interpolateEight : ℕ → ℕ → List ℕ → List ℕ
 interpolateEight x y block =
-    interpolateBlock words31 2 (pairTwiddle x y (negP y)) 0 (take 4 block) ++ interpolateBlock words31 2 (pairTwiddle y (negP x) x) 0 (drop 4 block)
+    interpolateBlock words31 2 (pairTwiddle x y (negP y)) 0 (take 4 block)
+    ++ interpolateBlock words31 2 (pairTwiddle y (negP x) x) 0 (drop 4 block)
 
 -- a block of 2^k words below node i, for k from 3 to 30, and the part of the tree that it needs
 pub record Block (block tree : List ℕ) (i k : ℕ) : Type 0 where

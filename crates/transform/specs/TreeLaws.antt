@@ -43,7 +43,8 @@ neg-neg x h = solveWords words31 m31 m31-representation (x ∷ []) (:- :- v0) v0
 -- (- u) (- x) = u x
 pub neg-mul-neg : (u x : ℕ) → mulP (negP u) (negP x) ≡ mulP u x
 neg-mul-neg u x =
-    solveWords words31 m31 m31-representation (u ∷ x ∷ []) (:- v0 :* :- v1) (v0 :* v1) (m31-representation .mul-reduced _ _) (m31-representation .mul-reduced _ _) tt
+    solveWords words31 m31 m31-representation (u ∷ x ∷ []) (:- v0 :* :- v1) (v0 :* v1) (m31-representation .mul-reduced _ _)
+    (m31-representation .mul-reduced _ _) tt
 
 beside-even : (tree : List ℕ) (j : ℕ) → beside tree (2 * j) ≡ getD tree (2 * j + 1) 0
 beside-even tree j =
@@ -154,7 +155,8 @@ module _ (n : ℕ) (tree : List ℕ) (lo : 3 ≤ n) (hi : n ≤ 30) (t : LineTre
 
   node-below : (j : ℕ) → 0 < j → j < 2 ^ (n - 1) → getD tree j 0 < P
   node-below =
-      by-level (λ j. getD tree j 0 < P) (n - 1) (λ k b a l. rw (t .lines k b (omega arith) (omega arith) l) (index-below (halfIndex (k + 2) (2 * b)) .0))
+      by-level (λ j. getD tree j 0 < P) (n - 1)
+      (λ k b a l. rw (t .lines k b (omega arith) (omega arith) l) (index-below (halfIndex (k + 2) (2 * b)) .0))
 
   pub tree-words : Words tree
   tree-words zero = rw (t .copied) (node-below 1 (omega arith) (omega (arith, half-is-two-quarters, W.pow-pos (n - 1 - 1))))
@@ -187,7 +189,8 @@ module _ (n : ℕ) (tree : List ℕ) (lo : 3 ≤ n) (hi : n ≤ 30) (t : LineTre
       even : b % 2 ≡ 0 → beside tree (2 ^ suc e + b) ≡ halfPoint (suc e + 2) (2 * b) .1
       even z =
           let node : 2 ^ suc e + b ≡ 2 * (2 ^ e + c) = omega (arith, N.two-pow-succ e) in
-          ap (beside tree) node ∙ beside-even tree (2 ^ e + c) ∙ child-y e c (omega arith) small ∙ ap₂ (λ (m k : ℕ). halfPoint m k .1) level (omega arith)
+          ap (beside tree) node ∙ beside-even tree (2 ^ e + c) ∙ child-y e c (omega arith) small
+          ∙ ap₂ (λ (m k : ℕ). halfPoint m k .1) level (omega arith)
 
       odd : b % 2 ≡ 1 → beside tree (2 ^ suc e + b) ≡ halfPoint (suc e + 2) (2 * b) .1
       odd z =
@@ -231,12 +234,14 @@ module _ (n : ℕ) (tree : List ℕ) (lo : 3 ≤ n) (hi : n ≤ 30) (t : LineTre
     circle-twiddle-inverse (suc (suc zero)) x y u v e f = neg-mul-neg u x ∙ e
     circle-twiddle-inverse (suc (suc (suc r))) x y u v e f = e
 
-    node-inverse : (s d : ℕ) → s + suc d ≡ n → (j : ℕ) → j < 2 ^ d → mulP (nodeTwiddle exit s (2 ^ d + j)) (nodeTwiddle tree s (2 ^ d + j)) ≡ 1
+    node-inverse : (s d : ℕ) → s + suc d ≡ n → (j : ℕ) → j < 2 ^ d
+        → mulP (nodeTwiddle exit s (2 ^ d + j)) (nodeTwiddle tree s (2 ^ d + j)) ≡ 1
     unfolding nodeTwiddle
     node-inverse zero d e j h =
         let q : ℕ = (2 ^ d + j) / 4 in
         let room : 2 * q + 1 < length tree = omega (arith, nodes, half-is-four-eighths, (ap (λ (m : ℕ). 2 ^ m) bits)) in
-        circle-twiddle-inverse ((2 ^ d + j) % 4) (getD tree (2 * q) 0) (getD tree (2 * q + 1) 0) (getD exit (2 * q) 0) (getD exit (2 * q + 1) 0)
+        circle-twiddle-inverse ((2 ^ d + j) % 4) (getD tree (2 * q) 0) (getD tree (2 * q + 1) 0) (getD exit (2 * q) 0)
+        (getD exit (2 * q + 1) 0)
         (i .inverse (2 * q) (omega arith)) (i .inverse (2 * q + 1) room)
       where
         bits : n - 1 ≡ d
@@ -246,7 +251,8 @@ module _ (n : ℕ) (tree : List ℕ) (lo : 3 ≤ n) (hi : n ≤ 30) (t : LineTre
         half-is-four-eighths =
             let less : n - 1 ≡ suc (suc (n - 1 - 1 - 1)) = omega arith in
             omega (arith, ap (λ (m : ℕ). 2 ^ m) less, N.two-pow-succ (suc (n - 1 - 1 - 1)), N.two-pow-succ (n - 1 - 1 - 1))
-    node-inverse (suc s) d e j h = i .inverse (2 ^ d + j) (omega (arith, nodes, N.two-pow-succ d, W.pow-mono {i = suc d} {j = n - 1} (omega arith)))
+    node-inverse (suc s) d e j h =
+        i .inverse (2 ^ d + j) (omega (arith, nodes, N.two-pow-succ d, W.pow-mono {i = suc d} {j = n - 1} (omega arith)))
 
     pub inverse-holds : HoldsTwiddles m31 n (λ s j. element (nodeTwiddle exit s j)) (fieldInverse n)
     inverse-holds = holds-inverse n (nodeTwiddle tree) (nodeTwiddle exit) tree-holds node-inverse

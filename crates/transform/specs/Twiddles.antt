@@ -33,10 +33,12 @@ module _ (n : ℕ) (lo : 1 ≤ n) (hi : n ≤ 30) where
   -- x doubled t times belongs to log size n - t
   half-doubled-x : (t k : ℕ) → t < n → iterate t (doubleX words31) (halfPoint n k .0) ≡ halfPoint (n - t) (k / 2 ^ t) .0
   unfolding iterate
-  half-doubled-x zero k h = ap₂ (λ (l m : ℕ). halfPoint l m .0) (omega arith) (omega (arith, ap (λ (s : ℕ). k / s) (N.pow-zero 2) ∙ N.div-one k))
+  half-doubled-x zero k h =
+      ap₂ (λ (l m : ℕ). halfPoint l m .0) (omega arith) (omega (arith, ap (λ (s : ℕ). k / s) (N.pow-zero 2) ∙ N.div-one k))
   half-doubled-x (suc t) k h =
       let level : n - t ≡ suc (n - suc t) = omega arith in
-      iterate-suc t (doubleX words31) (halfPoint n k .0) ∙ ap (doubleX words31) (half-doubled-x t k (omega arith) ∙ ap (λ (l : ℕ). halfPoint l (k / 2 ^ t) .0) level)
+      iterate-suc t (doubleX words31) (halfPoint n k .0)
+      ∙ ap (doubleX words31) (half-doubled-x t k (omega arith) ∙ ap (λ (l : ℕ). halfPoint l (k / 2 ^ t) .0) level)
       ∙ half-double-x (n - suc t) (omega arith) (omega arith) (k / 2 ^ t)
       ∙ ap (λ (m : ℕ). halfPoint (n - suc t) m .0) (N.div-div-eq-div-mul k (2 ^ t) 2 ∙ ap (λ (s : ℕ). k / s) (sym (N.pow-suc 2 t)))
 
@@ -47,10 +49,12 @@ module _ (n : ℕ) (lo : 1 ≤ n) (hi : n ≤ 30) where
       ∙ ap (λ (m : ℕ). halfPoint (n - t) m .0) (N.div-div-eq-div-mul p 2 (2 ^ t) ∙ ap (λ (s : ℕ). p / s) (sym (N.pow-succ' 2 t)))
 
   -- x of half coset point m, from the even one of its pair
-  line-sign : (l m : ℕ) → 2 ≤ l → l ≤ 30 → cond (eqb (m % 2) 0) (halfPoint l (2 * (m / 2)) .0) (negP (halfPoint l (2 * (m / 2)) .0)) ≡ halfPoint l m .0
+  line-sign : (l m : ℕ) → 2 ≤ l → l ≤ 30
+      → cond (eqb (m % 2) 0) (halfPoint l (2 * (m / 2)) .0) (negP (halfPoint l (2 * (m / 2)) .0)) ≡ halfPoint l m .0
   line-sign l m a b =
       even-or-odd m
-      (λ e. ap (λ (r : ℕ). cond (eqb r 0) (halfPoint l (2 * (m / 2)) .0) (negP (halfPoint l (2 * (m / 2)) .0))) e ∙ ap (λ (k : ℕ). halfPoint l k .0) (omega arith))
+      (λ e. ap (λ (r : ℕ). cond (eqb r 0) (halfPoint l (2 * (m / 2)) .0) (negP (halfPoint l (2 * (m / 2)) .0))) e
+      ∙ ap (λ (k : ℕ). halfPoint l k .0) (omega arith))
       (λ e.
       let whole : 2 * (m / 2) + 1 ≡ m = omega arith in
       ap (λ (r : ℕ). cond (eqb r 0) (halfPoint l (2 * (m / 2)) .0) (negP (halfPoint l (2 * (m / 2)) .0))) e
@@ -60,8 +64,10 @@ module _ (n : ℕ) (lo : 1 ≤ n) (hi : n ≤ 30) where
   unfolding onTheWay factor twiddle
   domain-twiddles p zero hp ht =
       even-or-odd p
-      (λ e. ap (λ (r : ℕ). cond (eqb r 0) (halfPoint n (p / 2) .1) (negP (halfPoint n (p / 2) .1))) (bit ∙ e) ∙ sym (ap (λ (q : ℕ × ℕ). q .1) (position-even n lo hi p e)))
-      (λ e. ap (λ (r : ℕ). cond (eqb r 0) (halfPoint n (p / 2) .1) (negP (halfPoint n (p / 2) .1))) (bit ∙ e) ∙ sym (ap (λ (q : ℕ × ℕ). q .1) (position-odd n lo hi p e)))
+      (λ e. ap (λ (r : ℕ). cond (eqb r 0) (halfPoint n (p / 2) .1) (negP (halfPoint n (p / 2) .1))) (bit ∙ e)
+      ∙ sym (ap (λ (q : ℕ × ℕ). q .1) (position-even n lo hi p e)))
+      (λ e. ap (λ (r : ℕ). cond (eqb r 0) (halfPoint n (p / 2) .1) (negP (halfPoint n (p / 2) .1))) (bit ∙ e)
+      ∙ sym (ap (λ (q : ℕ × ℕ). q .1) (position-odd n lo hi p e)))
     where
       bit : p / 2 ^ 0 % 2 ≡ p % 2
       bit = ap (λ (s : ℕ). s % 2) (N.div-one p)

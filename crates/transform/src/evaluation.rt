@@ -23,7 +23,8 @@ use fields::m31::inner::sub_partly;
 // A butterfly with twiddle w on each pair of words, half a block apart. P may stand for 0, before and after it.
 fn butterflies(block: &mut [u32], half: usize, w: u32)
     requires { ⌜ (length (now block) ≡ half + half) × (w < P) × PartlyReduced (now block) ⌝ }
-    ensures { λ _. ⌜ (reducedWords (now (block .exit)) ≡ butterflies words31 half w (reducedWords (now (block .entry)))) × PartlyReduced (now (block .exit)) ⌝ }
+    ensures { λ _. ⌜ (reducedWords (now (block .exit)) ≡ butterflies words31 half w (reducedWords (now (block .entry))))
+        × PartlyReduced (now (block .exit)) ⌝ }
 {
     let mut q: usize = 0;
     while q < half {
@@ -40,8 +41,12 @@ fn butterflies(block: &mut [u32], half: usize, w: u32)
 
 // One layer: each of so many blocks of two halves, with the twiddles from a node on.
 fn layer(column: &mut [u32], tree: &[u32], node: usize, count: usize, half: usize)
-    requires { ⌜ (length (now column) ≡ count * (half + half)) × (node + count ≤ length (now tree)) × PartlyReduced (now column) × Words (now tree) ⌝ }
-    ensures { λ _. ⌜ (reducedWords (now (column .exit)) ≡ blocks count (half + half) (λ j. butterflies words31 half (getD (now (tree .entry)) j 0)) node (reducedWords (now (column .entry)))) × PartlyReduced (now (column .exit)) ⌝ }
+    requires { ⌜ (length (now column) ≡ count * (half + half)) × (node + count ≤ length (now tree)) × PartlyReduced (now column)
+        × Words (now tree) ⌝ }
+    ensures { λ _. ⌜ (reducedWords (now (column .exit))
+        ≡ blocks count (half + half) (λ j. butterflies words31 half (getD (now (tree .entry)) j 0)) node
+        (reducedWords (now (column .entry))))
+        × PartlyReduced (now (column .exit)) ⌝ }
 {
     let mut b: usize = 0;
     let mut start: usize = 0;
@@ -102,8 +107,11 @@ fn eight(block: &mut [u32], x: u32, y: u32)
 
 // The last two layers of so many blocks of eight words, below the nodes from `node` on.
 fn eights(column: &mut [u32], tree: &[u32], node: usize, count: usize)
-    requires { ⌜ (length (now column) ≡ count * 8) × (2 * (node + count) ≤ length (now tree)) × PartlyReduced (now column) × Words (now tree) ⌝ }
-    ensures { λ _. ⌜ now (column .exit) ≡ blocks count 8 (λ j. evaluateEight (getD (now (tree .entry)) (2 * j) 0) (getD (now (tree .entry)) (2 * j + 1) 0)) node (reducedWords (now (column .entry))) ⌝ }
+    requires { ⌜ (length (now column) ≡ count * 8) × (2 * (node + count) ≤ length (now tree)) × PartlyReduced (now column)
+        × Words (now tree) ⌝ }
+    ensures { λ _. ⌜ now (column .exit)
+        ≡ blocks count 8 (λ j. evaluateEight (getD (now (tree .entry)) (2 * j) 0) (getD (now (tree .entry)) (2 * j + 1) 0)) node
+        (reducedWords (now (column .entry))) ⌝ }
 {
     let mut b: usize = 0;
     while b < count {
@@ -118,7 +126,8 @@ fn eights(column: &mut [u32], tree: &[u32], node: usize, count: usize)
 // A block of 2^k words below node i, layer by layer.
 fn layers(column: &mut [u32], tree: &[u32], i: usize, k: u32)
     requires { ⌜ Block (reducedWords (now column)) (now tree) i k × PartlyReduced (now column) ⌝ }
-    ensures { λ _. ⌜ now (column .exit) ≡ evaluateBlock words31 k (nodeTwiddle (now (tree .entry))) i (reducedWords (now (column .entry))) ⌝ }
+    ensures { λ _. ⌜ now (column .exit)
+        ≡ evaluateBlock words31 k (nodeTwiddle (now (tree .entry))) i (reducedWords (now (column .entry))) ⌝ }
 {
     let mut t = k;
     let mut node = i;
@@ -136,7 +145,8 @@ fn layers(column: &mut [u32], tree: &[u32], i: usize, k: u32)
 // A block of 2^k words below node i. Blocks that fit the cache go layer by layer, longer ones half by half.
 fn block(column: &mut [u32], tree: &[u32], i: usize, k: u32)
     requires { ⌜ Block (reducedWords (now column)) (now tree) i k × PartlyReduced (now column) ⌝ }
-    ensures { λ _. ⌜ now (column .exit) ≡ evaluateBlock words31 k (nodeTwiddle (now (tree .entry))) i (reducedWords (now (column .entry))) ⌝ }
+    ensures { λ _. ⌜ now (column .exit)
+        ≡ evaluateBlock words31 k (nodeTwiddle (now (tree .entry))) i (reducedWords (now (column .entry))) ⌝ }
 {
     if k <= 14 {
         layers(column, tree, i, k);
@@ -172,7 +182,9 @@ fn evaluate_four(column: &mut [u32])
 
 pub fn evaluate(log_size: u32, column: &mut [u32], scratch: &mut [u32])
     requires { ⌜ (1 ≤ «log_size») × («log_size» ≤ 30) × Column «log_size» (now column) × (2 ^ «log_size» ≤ length (now scratch)) ⌝ }
-    ensures { λ _. ⌜ (now (column .exit) ≡ valuesOf «log_size» (now (column .entry))) × (length (now (scratch .exit)) ≡ length (now (scratch .entry))) × (drop (2 ^ «log_size») (now (scratch .exit)) ≡ drop (2 ^ «log_size») (now (scratch .entry))) ⌝ }
+    ensures { λ _. ⌜ (now (column .exit) ≡ valuesOf «log_size» (now (column .entry)))
+        × (length (now (scratch .exit)) ≡ length (now (scratch .entry)))
+        × (drop (2 ^ «log_size») (now (scratch .exit)) ≡ drop (2 ^ «log_size») (now (scratch .entry))) ⌝ }
 {
     if log_size == 1 {
         evaluate_two(column);

@@ -7,7 +7,8 @@ ghost use Rattle.fields.specs.Words.{mulP, negP, words31};
 ghost use Rattle.column.specs.Butterflies.{inverseButterflies, interpolateBlock, scaled};
 ghost use Rattle.column.specs.Blocks.{blocks};
 ghost use Rattle.transform.specs.Transform.{Column, Coefficients};
-ghost use Rattle.transform.specs.Tree.{Words, PartlyReduced, reducedWords, nodeTwiddle, pairTwiddle, interpolateEight, Block, Unscaled};
+ghost use Rattle.transform.specs.Tree.{Words, PartlyReduced, reducedWords, nodeTwiddle};
+ghost use Rattle.transform.specs.Tree.{pairTwiddle, interpolateEight, Block, Unscaled};
 use crate::twiddles;
 use circle::index::inner::powers::power_point;
 use fields::log_size::inner::two_to;
@@ -43,7 +44,8 @@ fn inverse_butterflies(block: &mut [u32], half: usize, t: u32)
 // for 0, before and after it.
 fn inverse_butterflies_partly(block: &mut [u32], half: usize, t: u32)
     requires { ⌜ (length (now block) ≡ half + half) × (t < P) × PartlyReduced (now block) ⌝ }
-    ensures { λ _. ⌜ (reducedWords (now (block .exit)) ≡ inverseButterflies words31 half t (reducedWords (now (block .entry)))) × PartlyReduced (now (block .exit)) ⌝ }
+    ensures { λ _. ⌜ (reducedWords (now (block .exit)) ≡ inverseButterflies words31 half t (reducedWords (now (block .entry))))
+        × PartlyReduced (now (block .exit)) ⌝ }
 {
     let mut q: usize = 0;
     while q < half {
@@ -58,8 +60,12 @@ fn inverse_butterflies_partly(block: &mut [u32], half: usize, t: u32)
 
 // One layer: each of so many blocks of two halves, with the inverse twiddles from a node on.
 fn layer(column: &mut [u32], tree: &[u32], node: usize, count: usize, half: usize)
-    requires { ⌜ (length (now column) ≡ count * (half + half)) × (node + count ≤ length (now tree)) × PartlyReduced (now column) × Words (now tree) ⌝ }
-    ensures { λ _. ⌜ (reducedWords (now (column .exit)) ≡ blocks count (half + half) (λ j. inverseButterflies words31 half (getD (now (tree .entry)) j 0)) node (reducedWords (now (column .entry)))) × PartlyReduced (now (column .exit)) ⌝ }
+    requires { ⌜ (length (now column) ≡ count * (half + half)) × (node + count ≤ length (now tree)) × PartlyReduced (now column)
+        × Words (now tree) ⌝ }
+    ensures { λ _. ⌜ (reducedWords (now (column .exit))
+        ≡ blocks count (half + half) (λ j. inverseButterflies words31 half (getD (now (tree .entry)) j 0)) node
+        (reducedWords (now (column .entry))))
+        × PartlyReduced (now (column .exit)) ⌝ }
 {
     let mut b: usize = 0;
     let mut start: usize = 0;
@@ -74,7 +80,9 @@ fn layer(column: &mut [u32], tree: &[u32], node: usize, count: usize, half: usiz
 // Two layers on four words: v and -v for the pairs, w for the halves.
 fn four(block: &mut [u32], w: u32, v: u32)
     requires { ⌜ (length (now block) ≡ 4) × (w < P) × (v < P) × PartlyReduced (now block) ⌝ }
-    ensures { λ _. ⌜ (reducedWords (now (block .exit)) ≡ interpolateBlock words31 2 (pairTwiddle w v (negP v)) 0 (reducedWords (now (block .entry)))) × PartlyReduced (now (block .exit)) ⌝ }
+    ensures { λ _. ⌜ (reducedWords (now (block .exit))
+        ≡ interpolateBlock words31 2 (pairTwiddle w v (negP v)) 0 (reducedWords (now (block .entry))))
+        × PartlyReduced (now (block .exit)) ⌝ }
 {
     let a = block[0];
     let b = block[1];
@@ -93,7 +101,9 @@ fn four(block: &mut [u32], w: u32, v: u32)
 // Two layers on four words: -v and v for the pairs, w for the halves.
 fn four_negated(block: &mut [u32], w: u32, v: u32)
     requires { ⌜ (length (now block) ≡ 4) × (w < P) × (v < P) × PartlyReduced (now block) ⌝ }
-    ensures { λ _. ⌜ (reducedWords (now (block .exit)) ≡ interpolateBlock words31 2 (pairTwiddle w (negP v) v) 0 (reducedWords (now (block .entry)))) × PartlyReduced (now (block .exit)) ⌝ }
+    ensures { λ _. ⌜ (reducedWords (now (block .exit))
+        ≡ interpolateBlock words31 2 (pairTwiddle w (negP v) v) 0 (reducedWords (now (block .entry))))
+        × PartlyReduced (now (block .exit)) ⌝ }
 {
     let a = block[0];
     let b = block[1];
@@ -112,7 +122,8 @@ fn four_negated(block: &mut [u32], w: u32, v: u32)
 // The first two layers on the eight words below two siblings, which hold the inverses of x and y of one point.
 fn eight(block: &mut [u32], x: u32, y: u32)
     requires { ⌜ (length (now block) ≡ 8) × (x < P) × (y < P) × PartlyReduced (now block) ⌝ }
-    ensures { λ _. ⌜ (reducedWords (now (block .exit)) ≡ interpolateEight x y (reducedWords (now (block .entry)))) × PartlyReduced (now (block .exit)) ⌝ }
+    ensures { λ _. ⌜ (reducedWords (now (block .exit)) ≡ interpolateEight x y (reducedWords (now (block .entry))))
+        × PartlyReduced (now (block .exit)) ⌝ }
 {
     four(&mut block[0..4], x, y);
     four_negated(&mut block[4..8], y, x);
@@ -120,8 +131,12 @@ fn eight(block: &mut [u32], x: u32, y: u32)
 
 // The first two layers of so many blocks of eight words, below the nodes from `node` on.
 fn eights(column: &mut [u32], tree: &[u32], node: usize, count: usize)
-    requires { ⌜ (length (now column) ≡ count * 8) × (2 * (node + count) ≤ length (now tree)) × PartlyReduced (now column) × Words (now tree) ⌝ }
-    ensures { λ _. ⌜ (reducedWords (now (column .exit)) ≡ blocks count 8 (λ j. interpolateEight (getD (now (tree .entry)) (2 * j) 0) (getD (now (tree .entry)) (2 * j + 1) 0)) node (reducedWords (now (column .entry)))) × PartlyReduced (now (column .exit)) ⌝ }
+    requires { ⌜ (length (now column) ≡ count * 8) × (2 * (node + count) ≤ length (now tree)) × PartlyReduced (now column)
+        × Words (now tree) ⌝ }
+    ensures { λ _. ⌜ (reducedWords (now (column .exit))
+        ≡ blocks count 8 (λ j. interpolateEight (getD (now (tree .entry)) (2 * j) 0) (getD (now (tree .entry)) (2 * j + 1) 0)) node
+        (reducedWords (now (column .entry))))
+        × PartlyReduced (now (column .exit)) ⌝ }
 {
     let mut b: usize = 0;
     while b < count {
@@ -136,7 +151,9 @@ fn eights(column: &mut [u32], tree: &[u32], node: usize, count: usize)
 // A block of 2^k words below node i, layer by layer; 2^k times the coefficients.
 fn layers(column: &mut [u32], tree: &[u32], i: usize, k: u32)
     requires { ⌜ Block (reducedWords (now column)) (now tree) i k × PartlyReduced (now column) ⌝ }
-    ensures { λ _. ⌜ (reducedWords (now (column .exit)) ≡ interpolateBlock words31 k (nodeTwiddle (now (tree .entry))) i (reducedWords (now (column .entry)))) × PartlyReduced (now (column .exit)) ⌝ }
+    ensures { λ _. ⌜ (reducedWords (now (column .exit))
+        ≡ interpolateBlock words31 k (nodeTwiddle (now (tree .entry))) i (reducedWords (now (column .entry))))
+        × PartlyReduced (now (column .exit)) ⌝ }
 {
     let mut count = column.len() / 4;
     let mut node = i * count;
@@ -175,7 +192,8 @@ fn scale(column: &mut [u32], s: u32)
 // scaled there, longer ones go half by half.
 fn block(column: &mut [u32], tree: &[u32], i: usize, k: u32, s: u32)
     requires { ⌜ Block (now column) (now tree) i k × (0 < s) × (s < 31) ⌝ }
-    ensures { λ _. ⌜ now (column .exit) ≡ scaled words31 (2 ^ s) (interpolateBlock words31 k (nodeTwiddle (now (tree .entry))) i (now (column .entry))) ⌝ }
+    ensures { λ _. ⌜ now (column .exit)
+        ≡ scaled words31 (2 ^ s) (interpolateBlock words31 k (nodeTwiddle (now (tree .entry))) i (now (column .entry))) ⌝ }
 {
     if k <= 14 {
         layers(column, tree, i, k);
@@ -209,7 +227,9 @@ fn interpolate_four(column: &mut [u32])
 
 pub fn interpolate(log_size: u32, column: &mut [u32], scratch: &mut [u32])
     requires { ⌜ (1 ≤ «log_size») × («log_size» ≤ 30) × Column «log_size» (now column) × (2 ^ «log_size» ≤ length (now scratch)) ⌝ }
-    ensures { λ _. ⌜ Coefficients «log_size» (now (column .exit)) (now (column .entry)) × (length (now (scratch .exit)) ≡ length (now (scratch .entry))) × (drop (2 ^ «log_size») (now (scratch .exit)) ≡ drop (2 ^ «log_size») (now (scratch .entry))) ⌝ }
+    ensures { λ _. ⌜ Coefficients «log_size» (now (column .exit)) (now (column .entry))
+        × (length (now (scratch .exit)) ≡ length (now (scratch .entry)))
+        × (drop (2 ^ «log_size») (now (scratch .exit)) ≡ drop (2 ^ «log_size») (now (scratch .entry))) ⌝ }
 {
     if log_size == 1 {
         interpolate_two(column);

@@ -53,7 +53,8 @@ fn add_points(level: &mut [u32], count: usize, step: CirclePoint)
 
 // The first 2^(s - 1) points: with every bit of c one more power of G is added, with bit s the step.
 fn add_steps(level: &mut [u32], s: u32, step: CirclePoint)
-    requires { ⌜ (1 ≤ s) × (s ≤ 28) × (2 ^ s ≤ length (now level)) × (getD (now level) 0 0 < P) × (getD (now level) 1 0 < P) × Reduced step ⌝ }
+    requires { ⌜ (1 ≤ s) × (s ≤ 28) × (2 ^ s ≤ length (now level)) × (getD (now level) 0 0 < P) × (getD (now level) 1 0 < P)
+        × Reduced step ⌝ }
     ensures { λ _. ⌜ Stepped s (pointOf step) (now (level .entry)) (now (level .exit)) ⌝ }
 {
     if s < 2 {
@@ -91,7 +92,8 @@ fn double_level(tree: &mut [u32], first: usize)
 
 // The levels above the last.
 fn double_levels(tree: &mut [u32], log_size: u32)
-    requires { ⌜ (3 ≤ «log_size») × («log_size» ≤ 30) × (2 * length (now tree) ≡ 2 ^ «log_size») × LinesFrom «log_size» («log_size» - 2) (now tree) ⌝ }
+    requires { ⌜ (3 ≤ «log_size») × («log_size» ≤ 30) × (2 * length (now tree) ≡ 2 ^ «log_size»)
+        × LinesFrom «log_size» («log_size» - 2) (now tree) ⌝ }
     ensures { λ _. ⌜ LinesFrom «log_size» 0 (now (tree .exit)) ⌝ }
 {
     let mut m = log_size - 2;

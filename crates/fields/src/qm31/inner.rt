@@ -91,7 +91,10 @@ pub fn mul(a: QM31, b: QM31) -> QM31
 // ac + (2 + i)bd
 fn mul_first(a: CM31, b: CM31, c: CM31, d: CM31) -> CM31
     requires { ⌜ C.AllReduced a b c d ⌝ }
-    ensures { λ r. ⌜ (pairOf r ≡ complexWords .add (complexWords .mul (pairOf a) (pairOf c)) (complexWords .mul (twoPlusI words31) (complexWords .mul (pairOf b) (pairOf d)))) × C.Reduced r ⌝ }
+    ensures { λ r. ⌜ (pairOf r
+        ≡ complexWords .add (complexWords .mul (pairOf a) (pairOf c))
+        (complexWords .mul (twoPlusI words31) (complexWords .mul (pairOf b) (pairOf d))))
+        × C.Reduced r ⌝ }
 {
     let bd = cm31::mul(b, d);
     let plus = m31::product(a.0.0, c.0.0);
@@ -108,7 +111,8 @@ fn mul_first(a: CM31, b: CM31, c: CM31, d: CM31) -> CM31
 // ad + bc
 fn mul_second(a: CM31, b: CM31, c: CM31, d: CM31) -> CM31
     requires { ⌜ C.AllReduced a b c d ⌝ }
-    ensures { λ r. ⌜ (pairOf r ≡ complexWords .add (complexWords .mul (pairOf a) (pairOf d)) (complexWords .mul (pairOf b) (pairOf c))) × C.Reduced r ⌝ }
+    ensures { λ r. ⌜ (pairOf r ≡ complexWords .add (complexWords .mul (pairOf a) (pairOf d)) (complexWords .mul (pairOf b) (pairOf c)))
+        × C.Reduced r ⌝ }
 {
     let plus = m31::product(a.0.0, d.0.0) + m31::product(b.0.0, c.0.0);
     let minus = m31::product(a.1.0, d.1.0) + m31::product(b.1.0, c.1.0);

@@ -18,7 +18,8 @@ inverse-requires c κs =
 
 inverses-requires : tie.Need-inverses-requires
 inverses-requires c κs =
-    before-inverses cm31Units (before-products cm31Units (c .before .before .before .before .before .before .before .before .before .pre) (search needs))
+    before-inverses cm31Units
+    (before-products cm31Units (c .before .before .before .before .before .before .before .before .before .pre) (search needs))
     (c .before .before .before .before .products .ensures) (search needs) (c .inverse .ensures .0)
 
 same-length : tie.Need-same-length

@@ -18,7 +18,8 @@ pow2147483645-requires c κs =
 
 inverses-requires : tie.Need-inverses-requires
 inverses-requires c κs =
-    before-inverses m31Units (before-products m31Units (c .before .before .before .before .before .before .before .before .before .pre) (search needs))
+    before-inverses m31Units (before-products m31Units (c .before .before .before .before .before .before .before .before .before .pre)
+    (search needs))
     (c .before .before .before .before .products .ensures) (search needs) (c .pow2147483645 .ensures)
 
 same-length : tie.Need-same-length

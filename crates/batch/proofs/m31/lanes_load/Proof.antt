@@ -28,7 +28,9 @@ load-requires-4 : tie.Need-load-requires-4
 load-requires-4 c κs = search needs
 
 returns : tie.Need-returns
-returns c = four-path (c .before .before .before .load .ensures) (c .before .before .load2 .ensures) (c .before .load3 .ensures) (c .load4 .ensures)
+returns c =
+    four-path (c .before .before .before .load .ensures) (c .before .before .load2 .ensures) (c .before .load3 .ensures) (c .load4 .ensures)
 
 pub lanes-load-spec : {M : Type 1} → statement M
-lanes-load-spec = tie.close (tie.spec mul-upper add-upper load-requires add-load load-requires-2 load-requires-3 add-load-2 load-requires-4 returns)
+lanes-load-spec =
+    tie.close (tie.spec mul-upper add-upper load-requires add-load load-requires-2 load-requires-3 add-load-2 load-requires-4 returns)

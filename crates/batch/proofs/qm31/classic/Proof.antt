@@ -18,7 +18,8 @@ inverse-requires c κs =
 
 inverses-requires : tie.Need-inverses-requires
 inverses-requires c κs =
-    before-inverses qm31Units (before-products qm31Units (c .before .before .before .before .before .before .before .before .before .pre) (search needs))
+    before-inverses qm31Units
+    (before-products qm31Units (c .before .before .before .before .before .before .before .before .before .pre) (search needs))
     (c .before .before .before .before .products .ensures) (search needs) (c .inverse .ensures .0)
 
 same-length : tie.Need-same-length

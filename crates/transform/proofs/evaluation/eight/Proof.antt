@@ -37,8 +37,13 @@ four-negated-requires : tie.Need-four-negated-requires
 four-negated-requires c κs =
     let four = c .before .before .before .four in
     let s = c .before .before .before .before .before .before in
-    let size = four .kept .0 ∙ first-length (s .args .block .now) (s .pre .0) in
-    (second-length (s .args .block .now) (s .pre .0) (four .last .0) size, search needs, search needs, second-partly (s .args .block .now) (s .pre .0) (four .last .0) size (s .pre .3))
+    let size = four .kept .0 ∙ first-length (s .args .block .now) (s .pre .0) in (
+      second-length (s .args .block .now) (s .pre .0) (four .last .0) size,
+      search needs,
+      search needs,
+      second-partly (s .args .block .now)
+          (s .pre .0) (four .last .0) size (s .pre .3),
+    )
 
 same-length : tie.Need-same-length
 same-length c = search needs

@@ -14,7 +14,8 @@ use Rattle.transform.specs.Tree.{Words, reducedWords, pairTwiddle, evalu
 use Rattle.transform.proofs.WordLaws.{words-evaluate}
 use Rattle.transform.proofs.Eights.{eight-length, eight-words}
 use Rattle.transform.proofs.Partly.{partly-words, reduced-below, reduced-same}
-use Rattle.transform.proofs.BlockLoops.{turn-end, PartlyTurn, partly-start, partly-same, partly-inside, partly-part-length, partly-part, partly-next, spliced-prefix}
+use Rattle.transform.proofs.BlockLoops.{turn-end, PartlyTurn, partly-start, partly-same, partly-inside}
+use Rattle.transform.proofs.BlockLoops.{partly-part-length, partly-part, partly-next, spliced-prefix}
 use Rattle.transform.proofs.evaluation.eights.Statement.{statement}
 use Rattle.transform.proofs.evaluation.eights.Tie as tie
 
@@ -32,7 +33,8 @@ block-after-below : (tree : List ℕ) (j : ℕ) (l q : List ℕ) → q ≡ block
 block-after-below tree j l q e k =
     let x = getD tree (2 * j) 0 in
     let y = getD tree (2 * j + 1) 0 in
-    rw e (eight-words (first x y) (second x y) (λ l w. words-evaluate 2 _ 0 l w) (λ l w. words-evaluate 2 _ 0 l w) (reducedWords l) (reduced-below l) k)
+    rw e (eight-words (first x y) (second x y) (λ l w. words-evaluate 2 _ 0 l w) (λ l w. words-evaluate 2 _ 0 l w) (reducedWords l)
+    (reduced-below l) k)
 
 -- the blocks before b are reduced
 abbrev Inv-loop : tie.InvT-loop
@@ -42,11 +44,13 @@ abbrev μ-loop : tie.MeasureT-loop
 μ-loop column₀ tree node count b₀ column b = count - b
 
 in-column : (d : tie.In-loop Inv-loop μ-loop)
-    → (8 * d .before .loop .b + 8 ≤ length (d .before .loop .column)) × (length (d .before .loop .column) ≡ length (d .before .before .before .before .args .column .now))
+    → (8 * d .before .loop .b + 8 ≤ length (d .before .loop .column))
+    × (length (d .before .loop .column) ≡ length (d .before .before .before .before .args .column .now))
 in-column d =
     let s = d .before .before .before .before in
     partly-inside (s .args .count) 8 (blockAfter (s .args .tree .now)) (s .args .node) (s .args .column .now) (s .pre .0)
-    (d .before .loop .b) (d .before .loop .column) (d .before .loop .inv .0) (d .loop-test .taken) _ _ (N.mul-comm 8 (d .before .loop .b)) refl
+    (d .before .loop .b) (d .before .loop .column) (d .before .loop .inv .0) (d .loop-test .taken) _ _
+    (N.mul-comm 8 (d .before .loop .b)) refl
 
 loop-holds : tie.Need-loop-holds Inv-loop μ-loop
 loop-holds c =
@@ -99,11 +103,13 @@ eight-requires c κs =
     let tree = s .args .tree .now in
     let child = 2 * (s .args .node + d .before .loop .b) in (
       partly-part-length (s .args .count) 8 (blockAfter tree) (s .args .node) (s .args .column .now) (s .pre .0)
-          (d .before .loop .b) (d .before .loop .column) (d .before .loop .inv .0) (d .loop-test .taken) _ _ (N.mul-comm 8 (d .before .loop .b)) refl,
+          (d .before .loop .b) (d .before .loop .column) (d .before .loop .inv .0) (d .loop-test .taken) _ _
+          (N.mul-comm 8 (d .before .loop .b)) refl,
       s .pre .3 child,
       s .pre .3 (child + 1),
       partly-part (s .args .count) 8 (blockAfter tree) (s .args .node) (s .args .column .now) (s .pre .0)
-          (d .before .loop .b) (d .before .loop .column) (d .before .loop .inv .0) (d .loop-test .taken) _ _ (N.mul-comm 8 (d .before .loop .b)) refl,
+          (d .before .loop .b) (d .before .loop .column) (d .before .loop .inv .0) (d .loop-test .taken) _ _
+          (N.mul-comm 8 (d .before .loop .b)) refl,
     )
 
 add-b : tie.Need-add-b Inv-loop μ-loop
@@ -119,29 +125,35 @@ loop-again c =
     let tree = s .args .tree .now in
     let eight = c .before .before .eight in
     let start = 8 * d .before .loop .b in
-    let below = block-after-below tree (s .args .node + d .before .loop .b) (take (start + 8 - start) (drop start (d .before .loop .column))) (eight .last .0) (eight .ensures) in (
+    let below = block-after-below tree (s .args .node + d .before .loop .b)
+    (take (start + 8 - start) (drop start (d .before .loop .column))) (eight .last .0) (eight .ensures) in (
       partly-next (s .args .count) 8 (blockAfter tree) (s .args .node) (s .args .column .now) (s .pre .0)
-          (d .before .loop .b) (d .before .loop .column) (d .before .loop .inv .0) (d .loop-test .taken) _ _ (N.mul-comm 8 (d .before .loop .b)) refl
+          (d .before .loop .b) (d .before .loop .column) (d .before .loop .inv .0) (d .loop-test .taken) _ _
+          (N.mul-comm 8 (d .before .loop .b)) refl
           (λ j l e. let x = getD tree (2 * j) 0 in let y = getD tree (2 * j + 1) 0 in
           eight-length (first x y) (second x y) (λ l e. evaluate-length words31 2 _ 0 l e) (λ l e. evaluate-length words31 2 _ 0 l e) l e)
           (eight .last .0) (reduced-same (eight .last .0) below ∙ eight .ensures) (partly-words (eight .last .0) below),
-      spliced-prefix (d .before .loop .column) (eight .last .0) _ (8 * d .before .loop .b) 8 (8 * (d .before .loop .b + 1)) (omega (arith, in-column d .0))
+      spliced-prefix (d .before .loop .column) (eight .last .0) _ (8 * d .before .loop .b) 8 (8 * (d .before .loop .b + 1))
+          (omega (arith, in-column d .0))
           (eight .kept .0 ∙ partly-part-length (s .args .count) 8 (blockAfter tree) (s .args .node) (s .args .column .now) (s .pre .0)
-          (d .before .loop .b) (d .before .loop .column) (d .before .loop .inv .0) (d .loop-test .taken) _ _ (N.mul-comm 8 (d .before .loop .b)) refl)
+          (d .before .loop .b) (d .before .loop .column) (d .before .loop .inv .0) (d .loop-test .taken) _ _
+          (N.mul-comm 8 (d .before .loop .b)) refl)
           (omega arith) (d .before .loop .inv .1) below,
     )
 
 same-length : tie.Need-same-length Inv-loop μ-loop
 same-length c =
     let s = c .before .before .before .before .args in
-    partly-same (s .count) 8 (blockAfter (s .tree .now)) (s .node) (s .column .now) (c .before .loop .b) (c .before .loop .column) (c .before .loop .inv .0)
+    partly-same (s .count) 8 (blockAfter (s .tree .now)) (s .node) (s .column .now) (c .before .loop .b) (c .before .loop .column)
+    (c .before .loop .inv .0)
 
 returns : tie.Need-returns Inv-loop μ-loop
 returns c =
     let s = c .before .before .before .before in
     let b = c .before .loop .b in
     let column = c .before .loop .column in
-    let same = partly-same (s .args .count) 8 (blockAfter (s .args .tree .now)) (s .args .node) (s .args .column .now) b column (c .before .loop .inv .0) in
+    let same = partly-same (s .args .count) 8 (blockAfter (s .args .tree .now)) (s .args .node) (s .args .column .now) b column
+    (c .before .loop .inv .0) in
     let all = take-all (8 * b) column (omega (arith, same, s .pre .0)) in
     sym (reduced-same column (subst Words all (c .before .loop .inv .1)))
     ∙ turn-end (s .args .count) 8 (blockAfter (s .args .tree .now)) (s .args .node) (reducedWords (s .args .column .now))

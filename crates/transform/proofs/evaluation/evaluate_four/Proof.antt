@@ -29,7 +29,8 @@ returns c =
     let s = c .before .before .before .before .before .before in
     let x = point .result .x .0 in
     four-evaluated-values x (two-start (pointOf (point .result)) (point .ensures .0)) (s .args .column .now) (four .last .0) (s .pre)
-    (four .ensures ∙ ap (evaluateBlock words31 2 (pairTwiddle x (negP x) x) 0) (reduced-same (s .args .column .now) (column-words 2 (s .args .column .now) (s .pre))))
+    (four .ensures ∙ ap (evaluateBlock words31 2 (pairTwiddle x (negP x) x) 0)
+    (reduced-same (s .args .column .now) (column-words 2 (s .args .column .now) (s .pre))))
 
 pub evaluate-four-spec : {M : Type 1} → statement M
 evaluate-four-spec =

@@ -6,7 +6,8 @@ use Rattle.fields.specs.Words.{words31}
 use Rattle.column.specs.Butterflies.{butterflySum, butterflyDifference}
 use Rattle.transform.specs.Tree.{reducedWords}
 use Rattle.transform.proofs.Partly.{reduced-length, product-partly, reduced-sum, reduced-difference}
-use Rattle.transform.proofs.Fours.{upperSum, upperDifference, lower-sum, lower-difference, upper-sum, upper-difference, negated-evaluated}
+use Rattle.transform.proofs.Fours.{upperSum, upperDifference, lower-sum, lower-difference}
+use Rattle.transform.proofs.Fours.{upper-sum, upper-difference, negated-evaluated}
 use Rattle.transform.proofs.evaluation.four_negated.Statement.{statement}
 use Rattle.transform.proofs.evaluation.four_negated.Tie as tie
 
@@ -44,7 +45,8 @@ sub-requires : tie.Need-sub-requires
 sub-requires c κs = search needs
 
 sub-partly-requires : tie.Need-sub-partly-requires
-sub-partly-requires c κs = (c .before .before .before .before .before .before .before .before .before .before .before .before .pre .3 1, search needs)
+sub-partly-requires c κs =
+    (c .before .before .before .before .before .before .before .before .before .before .before .before .pre .3 1, search needs)
 
 mul-partly-requires-4 : tie.Need-mul-partly-requires-4
 mul-partly-requires-4 c κs = search needs
@@ -78,24 +80,33 @@ same-length c = search needs
 
 returns : tie.Need-returns
 returns c =
-    let s = c .before .before .before .before .before .before .before .before .before .before .before .before .before .before .before .before .before .before in
+    let d = c .before .before .before .before .before .before .before .before .before in
+    let s = d .before .before .before .before .before .before .before .before .before in
     let w = s .args .w in
     let v = s .args .v in
     let block = s .args .block .now in
-    let a = c .before .before .before .before .before .before .before .before .before .before .before .before .before .before .before .partial-reduce in
+    let a = d .before .before .before .before .before .before .partial-reduce in
     let first = c .before .before .before .before .before .before .before .before .before .before .before .before .mul-partly in
     let second = c .before .before .before .before .before .before .before .before .before .before .mul-partly2 in
-    let p = lower-sum w block (a .result) (first .result) (a .ensures) (first .ensures .0) _ (c .before .before .before .before .before .before .before .before .before .add .ensures) in
-    let q = upper-sum w block (second .result) (second .ensures .0) _ (c .before .before .before .before .before .before .before .before .add-partly .ensures .0) in
-    let m = lower-difference w block (a .result) (first .result) (a .ensures) (first .ensures .0) _ (c .before .before .before .before .before .before .sub .ensures) in
-    let n = upper-difference w block (second .result) (second .ensures .0) _ (c .before .before .before .before .before .sub-partly .ensures .0) in
+    let p = lower-sum w block (a .result) (first .result) (a .ensures) (first .ensures .0) _
+    (c .before .before .before .before .before .before .before .before .before .add .ensures) in
+    let q = upper-sum w block (second .result) (second .ensures .0) _
+    (c .before .before .before .before .before .before .before .before .add-partly .ensures .0) in
+    let m = lower-difference w block (a .result) (first .result) (a .ensures) (first .ensures .0) _
+    (c .before .before .before .before .before .before .sub .ensures) in
+    let n =
+    upper-difference w block (second .result) (second .ensures .0) _ (c .before .before .before .before .before .sub-partly .ensures .0) in
     let third = product-partly _ _ _ _ (c .before .before .before .before .before .before .before .mul-partly3 .ensures .0) q in
     let fourth = product-partly _ _ _ _ (c .before .before .before .before .mul-partly4 .ensures .0) n in
     negated-evaluated w v block (reducedWords block) (s .pre .0) (reduced-length block ∙ s .pre .0) _ _ _ _
-    (reduced-difference _ _ _ _ third _ (c .before .before .before .sub2 .ensures) ∙ ap (λ (t : ℕ). butterflyDifference words31 v t (upperSum w (reducedWords block))) p)
-    (reduced-sum _ _ _ _ third _ (c .before .before .add2 .ensures) ∙ ap (λ (t : ℕ). butterflySum words31 v t (upperSum w (reducedWords block))) p)
-    (reduced-sum _ _ _ _ fourth _ (c .before .add3 .ensures) ∙ ap (λ (t : ℕ). butterflySum words31 v t (upperDifference w (reducedWords block))) m)
-    (reduced-difference _ _ _ _ fourth _ (c .sub3 .ensures) ∙ ap (λ (t : ℕ). butterflyDifference words31 v t (upperDifference w (reducedWords block))) m)
+    (reduced-difference _ _ _ _ third _ (c .before .before .before .sub2 .ensures)
+    ∙ ap (λ (t : ℕ). butterflyDifference words31 v t (upperSum w (reducedWords block))) p)
+    (reduced-sum _ _ _ _ third _ (c .before .before .add2 .ensures)
+    ∙ ap (λ (t : ℕ). butterflySum words31 v t (upperSum w (reducedWords block))) p)
+    (reduced-sum _ _ _ _ fourth _ (c .before .add3 .ensures)
+    ∙ ap (λ (t : ℕ). butterflySum words31 v t (upperDifference w (reducedWords block))) m)
+    (reduced-difference _ _ _ _ fourth _ (c .sub3 .ensures)
+    ∙ ap (λ (t : ℕ). butterflyDifference words31 v t (upperDifference w (reducedWords block))) m)
 
 pub four-negated-spec : {M : Type 1} → statement M
 four-negated-spec =

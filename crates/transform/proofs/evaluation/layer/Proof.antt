@@ -7,7 +7,8 @@ use borrow.Author.Needs.{needs}
 use Rattle.fields.specs.Words.{words31}
 use Rattle.column.specs.Butterflies.{butterflies}
 use Rattle.column.specs.Blocks.{butterflies-length}
-use Rattle.transform.proofs.BlockLoops.{turn-end, PartlyTurn, partly-start, partly-same, partly-inside, partly-part-length, partly-part, partly-next}
+use Rattle.transform.proofs.BlockLoops.{turn-end, PartlyTurn, partly-start, partly-same}
+use Rattle.transform.proofs.BlockLoops.{partly-inside, partly-part-length, partly-part, partly-next}
 use Rattle.transform.specs.Tree.{reducedWords}
 use Rattle.transform.proofs.evaluation.layer.Statement.{statement}
 use Rattle.transform.proofs.evaluation.layer.Tie as tie
@@ -25,16 +26,21 @@ abbrev μ-loop : tie.MeasureT-loop
 
 in-column : (d : tie.In-loop Inv-loop μ-loop)
     → let s = d .before .before .before .before .args in
-    (d .before .loop .start + (s .half + s .half) ≤ length (d .before .loop .column)) × (length (d .before .loop .column) ≡ length (s .column .now))
+    (d .before .loop .start + (s .half + s .half) ≤ length (d .before .loop .column))
+    × (length (d .before .loop .column) ≡ length (s .column .now))
 in-column d =
     let s = d .before .before .before .before in
-    partly-inside (s .args .count) (s .args .half + s .args .half) (blockAfter (s .args .half) (s .args .tree .now)) (s .args .node) (s .args .column .now) (s .pre .0)
+    partly-inside (s .args .count) (s .args .half + s .args .half) (blockAfter (s .args .half) (s .args .tree .now)) (s .args .node)
+    (s .args .column .now) (s .pre .0)
     (d .before .loop .b) (d .before .loop .column) (d .before .loop .inv .1) (d .loop-test .taken) _ _ (d .before .loop .inv .0) refl
 
 loop-holds : tie.Need-loop-holds Inv-loop μ-loop
 loop-holds c =
-    let s = c .before .before in
-    (omega arith, partly-start (s .args .count) (s .args .half + s .args .half) (blockAfter (s .args .half) (s .args .tree .now)) (s .args .node) (s .args .column .now) (s .pre .2))
+    let s = c .before .before in (
+      omega arith,
+      partly-start (s .args .count) (s .args .half + s .args .half) (blockAfter (s .args .half) (s .args .tree .now))
+          (s .args .node) (s .args .column .now) (s .pre .2),
+    )
 
 add-end : tie.Need-add-end Inv-loop μ-loop
 add-end c = omega (arith, in-column c .0, in-column c .1)
@@ -67,10 +73,12 @@ butterflies-requires : tie.Need-butterflies-requires Inv-loop μ-loop
 butterflies-requires c κs =
     let d = c .before .before in
     let s = d .before .before .before .before in (
-      partly-part-length (s .args .count) (s .args .half + s .args .half) (blockAfter (s .args .half) (s .args .tree .now)) (s .args .node) (s .args .column .now) (s .pre .0)
+      partly-part-length (s .args .count) (s .args .half + s .args .half) (blockAfter (s .args .half) (s .args .tree .now)) (s .args .node)
+          (s .args .column .now) (s .pre .0)
           (d .before .loop .b) (d .before .loop .column) (d .before .loop .inv .1) (d .loop-test .taken) _ _ (d .before .loop .inv .0) refl,
       s .pre .3 (s .args .node + d .before .loop .b),
-      partly-part (s .args .count) (s .args .half + s .args .half) (blockAfter (s .args .half) (s .args .tree .now)) (s .args .node) (s .args .column .now) (s .pre .0)
+      partly-part (s .args .count) (s .args .half + s .args .half) (blockAfter (s .args .half) (s .args .tree .now)) (s .args .node)
+          (s .args .column .now) (s .pre .0)
           (d .before .loop .b) (d .before .loop .column) (d .before .loop .inv .1) (d .loop-test .taken) _ _ (d .before .loop .inv .0) refl,
     )
 
@@ -86,7 +94,8 @@ loop-again c =
     let s = d .before .before .before .before in
     let butterflies = c .before .before .butterflies in (
       omega (arith, d .before .loop .inv .0),
-      partly-next (s .args .count) (s .args .half + s .args .half) (blockAfter (s .args .half) (s .args .tree .now)) (s .args .node) (s .args .column .now) (s .pre .0)
+      partly-next (s .args .count) (s .args .half + s .args .half) (blockAfter (s .args .half) (s .args .tree .now)) (s .args .node)
+          (s .args .column .now) (s .pre .0)
           (d .before .loop .b) (d .before .loop .column) (d .before .loop .inv .1) (d .loop-test .taken) _ _ (d .before .loop .inv .0) refl
           (λ j l e. butterflies-length words31 (s .args .half) (getD (s .args .tree .now) j 0) l e)
           (butterflies .last .0) (butterflies .ensures .0) (butterflies .ensures .1),
@@ -95,7 +104,8 @@ loop-again c =
 same-length : tie.Need-same-length Inv-loop μ-loop
 same-length c =
     let s = c .before .before .before .before .args in
-    partly-same (s .count) (s .half + s .half) (blockAfter (s .half) (s .tree .now)) (s .node) (s .column .now) (c .before .loop .b) (c .before .loop .column) (c .before .loop .inv .1)
+    partly-same (s .count) (s .half + s .half) (blockAfter (s .half) (s .tree .now)) (s .node) (s .column .now) (c .before .loop .b)
+    (c .before .loop .column) (c .before .loop .inv .1)
 
 returns : tie.Need-returns Inv-loop μ-loop
 returns c =

@@ -10,7 +10,8 @@ use Rattle.column.specs.Butterflies.{interpolateBlock}
 use Rattle.column.specs.Inverse.{interpolate-length}
 use Rattle.transform.specs.Tree.{reducedWords, pairTwiddle, interpolateEight}
 use Rattle.transform.proofs.Eights.{eight-length}
-use Rattle.transform.proofs.BlockLoops.{turn-end, PartlyTurn, partly-start, partly-same, partly-inside, partly-part-length, partly-part, partly-next}
+use Rattle.transform.proofs.BlockLoops.{turn-end, PartlyTurn, partly-start, partly-same}
+use Rattle.transform.proofs.BlockLoops.{partly-inside, partly-part-length, partly-part, partly-next}
 use Rattle.transform.proofs.interpolation.eights.Statement.{statement}
 use Rattle.transform.proofs.interpolation.eights.Tie as tie
 
@@ -31,7 +32,8 @@ abbrev μ-loop : tie.MeasureT-loop
 μ-loop column₀ tree node count b₀ column b = count - b
 
 in-column : (d : tie.In-loop Inv-loop μ-loop)
-    → (8 * d .before .loop .b + 8 ≤ length (d .before .loop .column)) × (length (d .before .loop .column) ≡ length (d .before .before .before .before .args .column .now))
+    → (8 * d .before .loop .b + 8 ≤ length (d .before .loop .column))
+    × (length (d .before .loop .column) ≡ length (d .before .before .before .before .args .column .now))
 in-column d =
     let s = d .before .before .before .before in
     partly-inside (s .args .count) 8 (blockAfter (s .args .tree .now)) (s .args .node) (s .args .column .now) (s .pre .0)
@@ -88,11 +90,13 @@ eight-requires c κs =
     let tree = s .args .tree .now in
     let child = 2 * (s .args .node + d .before .loop .b) in (
       partly-part-length (s .args .count) 8 (blockAfter tree) (s .args .node) (s .args .column .now) (s .pre .0)
-          (d .before .loop .b) (d .before .loop .column) (d .before .loop .inv) (d .loop-test .taken) _ _ (N.mul-comm 8 (d .before .loop .b)) refl,
+          (d .before .loop .b) (d .before .loop .column) (d .before .loop .inv) (d .loop-test .taken) _ _
+          (N.mul-comm 8 (d .before .loop .b)) refl,
       s .pre .3 child,
       s .pre .3 (child + 1),
       partly-part (s .args .count) 8 (blockAfter tree) (s .args .node) (s .args .column .now) (s .pre .0)
-          (d .before .loop .b) (d .before .loop .column) (d .before .loop .inv) (d .loop-test .taken) _ _ (N.mul-comm 8 (d .before .loop .b)) refl,
+          (d .before .loop .b) (d .before .loop .column) (d .before .loop .inv) (d .loop-test .taken) _ _
+          (N.mul-comm 8 (d .before .loop .b)) refl,
     )
 
 add-b : tie.Need-add-b Inv-loop μ-loop
@@ -115,7 +119,8 @@ loop-again c =
 same-length : tie.Need-same-length Inv-loop μ-loop
 same-length c =
     let s = c .before .before .before .before .args in
-    partly-same (s .count) 8 (blockAfter (s .tree .now)) (s .node) (s .column .now) (c .before .loop .b) (c .before .loop .column) (c .before .loop .inv)
+    partly-same (s .count) 8 (blockAfter (s .tree .now)) (s .node) (s .column .now) (c .before .loop .b) (c .before .loop .column)
+    (c .before .loop .inv)
 
 returns : tie.Need-returns Inv-loop μ-loop
 returns c =

@@ -35,7 +35,8 @@ add-partly-requires-2 : tie.Need-add-partly-requires-2
 add-partly-requires-2 c κs = let words = c .before .before .before .before .before .before .before .before .pre .3 in (words 2, words 3)
 
 sub-partly-requires-2 : tie.Need-sub-partly-requires-2
-sub-partly-requires-2 c κs = let words = c .before .before .before .before .before .before .before .before .before .pre .3 in (words 2, words 3)
+sub-partly-requires-2 c κs =
+    let words = c .before .before .before .before .before .before .before .before .before .pre .3 in (words 2, words 3)
 
 mul-partly-requires-2 : tie.Need-mul-partly-requires-2
 mul-partly-requires-2 c κs = search needs
@@ -68,20 +69,29 @@ mul-partly-requires-4 : tie.Need-mul-partly-requires-4
 mul-partly-requires-4 c κs = search needs
 
 slice-write-block-4 : tie.Need-slice-write-block-4
-slice-write-block-4 c = simp (length-set) (omega (arith, c .before .before .before .before .before .before .before .before .before .before .before .before .before .before .before .before .before .pre .0))
+slice-write-block-4 c =
+    let d = c .before .before .before .before .before .before .before .before .before in
+    simp (length-set) (omega (arith, d .before .before .before .before .before .before .before .before .pre .0))
 
 same-length : tie.Need-same-length
 same-length c = search needs
 
 returns : tie.Need-returns
 returns c =
-    let s = c .before .before .before .before .before .before .before .before .before .before .before .before .before .before .before .before .before in
+    let d = c .before .before .before .before .before .before .before .before .before in
+    let s = d .before .before .before .before .before .before .before .before in
     let block = s .args .block .now in
     let at : (k : ℕ) → getD block k 0 % P ≡ getD (reducedWords block) k 0 = λ k. sym (reduced-at block k) in
-    let p = partly-inverse-sum _ _ _ _ (at 0) (at 1) _ (c .before .before .before .before .before .before .before .before .before .before .before .add-partly .ensures .0) in
-    let q = partly-inverse-difference _ _ _ _ (at 1) (at 0) (s .args .v) _ _ (c .before .before .before .before .before .before .before .before .before .before .sub-partly .ensures .0) (c .before .before .before .before .before .before .before .before .before .mul-partly .ensures .0) in
-    let m = partly-inverse-sum _ _ _ _ (at 2) (at 3) _ (c .before .before .before .before .before .before .before .before .add-partly2 .ensures .0) in
-    let n = partly-inverse-difference _ _ _ _ (at 2) (at 3) (s .args .v) _ _ (c .before .before .before .before .before .before .before .sub-partly2 .ensures .0) (c .before .before .before .before .before .before .mul-partly2 .ensures .0) in
+    let p = partly-inverse-sum _ _ _ _ (at 0) (at 1) _
+    (c .before .before .before .before .before .before .before .before .before .before .before .add-partly .ensures .0) in
+    let q = partly-inverse-difference _ _ _ _ (at 1) (at 0) (s .args .v) _ _
+    (c .before .before .before .before .before .before .before .before .before .before .sub-partly .ensures .0)
+    (c .before .before .before .before .before .before .before .before .before .mul-partly .ensures .0) in
+    let m = partly-inverse-sum _ _ _ _ (at 2) (at 3) _
+    (c .before .before .before .before .before .before .before .before .add-partly2 .ensures .0) in
+    let n = partly-inverse-difference _ _ _ _ (at 2) (at 3) (s .args .v) _ _
+    (c .before .before .before .before .before .before .before .sub-partly2 .ensures .0)
+    (c .before .before .before .before .before .before .mul-partly2 .ensures .0) in
     let first = c .before .before .before .before .before .add-partly3 .ensures in
     let second = c .before .before .before .before .add-partly4 .ensures in
     let third = c .before .before .mul-partly3 .ensures in

@@ -38,8 +38,10 @@ returns c =
     let sum = c .before .before .before .before .add in
     let point = c .before .before .before .before .before .power-point in
     let s = c .before .before .before .before .before .before .before in
-    four-interpolated-values (point .result .x .0) (two-start (pointOf (point .result)) (point .ensures .0)) (s .args .column .now) (four .last .0) (s .pre)
-    (four .ensures .0 ∙ ap (λ (x : ℕ). interpolateBlock words31 2 (pairTwiddle x (negP x) x) 0 (reducedWords (s .args .column .now))) (sum .ensures)) (four .ensures .1)
+    four-interpolated-values (point .result .x .0) (two-start (pointOf (point .result)) (point .ensures .0)) (s .args .column .now)
+    (four .last .0) (s .pre)
+    (four .ensures .0 ∙ ap (λ (x : ℕ). interpolateBlock words31 2 (pairTwiddle x (negP x) x) 0 (reducedWords (s .args .column .now)))
+    (sum .ensures)) (four .ensures .1)
 
 pub interpolate-four-spec : {M : Type 1} → statement M
 interpolate-four-spec =

@@ -24,8 +24,12 @@ slice-read-rotated c = omega arith
 rotated-requires : tie.Need-rotated-requires Inv-loop μ-loop
 rotated-requires c κs =
     let d = c .before in
-    let s = d .before .before .before in
-    (next-word (2 ^ s .args .s) (s .args .column .now) (d .before .loop .i) (d .before .loop .column) (d .before .loop .inv) (d .loop-test .taken) (s .pre .2), search needs, search needs)
+    let s = d .before .before .before in (
+      next-word (2 ^ s .args .s) (s .args .column .now) (d .before .loop .i) (d .before .loop .column) (d .before .loop .inv)
+          (d .loop-test .taken) (s .pre .2),
+      search needs,
+      search needs,
+    )
 
 mul-column : tie.Need-mul-column Inv-loop μ-loop
 mul-column c = search needs
@@ -43,7 +47,8 @@ loop-again : tie.Need-loop-again Inv-loop μ-loop
 loop-again c =
     let d = c .before .before in
     let s = d .before .before .before in
-    scaled-next (2 ^ s .args .s) (s .args .column .now) (d .before .loop .i) (d .before .loop .column) (d .before .loop .inv) (d .loop-test .taken)
+    scaled-next (2 ^ s .args .s) (s .args .column .now) (d .before .loop .i) (d .before .loop .column) (d .before .loop .inv)
+    (d .loop-test .taken)
     (c .rotated .result) (c .rotated .ensures)
 
 same-length : tie.Need-same-length Inv-loop μ-loop
@@ -52,7 +57,8 @@ same-length c = c .before .loop .inv .same
 returns : tie.Need-returns Inv-loop μ-loop
 returns c =
     let s = c .before .before .before in
-    scaled-end (2 ^ s .args .s) (s .args .column .now) (c .before .loop .i) (c .before .loop .column) (c .before .loop .inv) (c .loop-test .left)
+    scaled-end (2 ^ s .args .s) (s .args .column .now) (c .before .loop .i) (c .before .loop .column) (c .before .loop .inv)
+    (c .loop-test .left)
 
 pub scale-spec : {M : Type 1} → statement M
 scale-spec =

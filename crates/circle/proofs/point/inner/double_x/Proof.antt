@@ -18,7 +18,10 @@ sub-requires : tie.Need-sub-requires
 sub-requires c κs = search needs
 
 returns : tie.Need-returns
-returns c = c .sub .ensures ∙ ap (λ (a : ℕ). subP a 1) (c .before .add .ensures ∙ add-self-two words31 m31 m31-representation (c .before .before .mul .result) ∙ ap (mulP 2) (c .before .before .mul .ensures))
+returns c = c .sub .ensures
+    ∙ ap (λ (a : ℕ). subP a 1)
+    (c .before .add .ensures ∙ add-self-two words31 m31 m31-representation (c .before .before .mul .result)
+    ∙ ap (mulP 2) (c .before .before .mul .ensures))
 
 pub double-x-spec : {M : Type 1} → statement M
 double-x-spec = tie.close (tie.spec mul-requires add-requires sub-requires returns)

@@ -19,14 +19,16 @@ mul-requires-3 : tie.Need-mul-requires-3
 mul-requires-3 c κs = search needs
 
 mul-requires-4 : tie.Need-mul-requires-4
-mul-requires-4 c κs = (c .before .before .before .before .before .before .before .before .pre .0 .1, c .before .before .before .before .before .before .before .before .pre .1 .0)
+mul-requires-4 c κs = let entry = c .before .before .before .before .before .before .before .before in (entry .pre .0 .1, entry .pre .1 .0)
 
 add-requires : tie.Need-add-requires
 add-requires c κs = search needs
 
 returns : tie.Need-returns
 returns c = (
-  pair-path (c .before .before .before .sub .ensures .0 ∙ ap₂ (sub quarticWords) (c .before .before .before .before .before .mul .ensures .0) (c .before .before .before .before .mul2 .ensures .0))
+  pair-path (c .before .before .before .sub .ensures .0
+      ∙ ap₂ (sub quarticWords) (c .before .before .before .before .before .mul .ensures .0)
+      (c .before .before .before .before .mul2 .ensures .0))
       (c .add .ensures .0 ∙ ap₂ (quarticWords .add) (c .before .before .mul3 .ensures .0) (c .before .mul4 .ensures .0)),
   (c .before .before .before .sub .ensures .1, c .add .ensures .1),
 )

@@ -10,7 +10,10 @@ conjugate-requires-2 : tie.Need-conjugate-requires-2
 conjugate-requires-2 c κs = search needs
 
 returns : tie.Need-returns
-returns c = (pair-path (c .before .conjugate .ensures .0) (c .conjugate2 .ensures .0), (c .before .conjugate .ensures .1, c .conjugate2 .ensures .1))
+returns c = (
+  pair-path (c .before .conjugate .ensures .0) (c .conjugate2 .ensures .0),
+  (c .before .conjugate .ensures .1, c .conjugate2 .ensures .1),
+)
 
 pub complex-conjugate-spec : {M : Type 1} → statement M
 complex-conjugate-spec = tie.close (tie.spec conjugate-requires conjugate-requires-2 returns)

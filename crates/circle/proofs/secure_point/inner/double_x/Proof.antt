@@ -21,12 +21,15 @@ one-requires : tie.Need-one-requires
 one-requires c κs = search needs
 
 sub-requires : tie.Need-sub-requires
-sub-requires c κs = (c .before .add .ensures .1, subst (λ (a : QM31). Reduced a) (sym (c .one .ensures)) ((lit< tt, lit< tt), (lit< tt, lit< tt)))
+sub-requires c κs =
+    (c .before .add .ensures .1, subst (λ (a : QM31). Reduced a) (sym (c .one .ensures)) ((lit< tt, lit< tt), (lit< tt, lit< tt)))
 
 returns : tie.Need-returns
 returns c = (
   c .sub .ensures .0
-      ∙ ap₂ (sub quarticWords) (c .before .before .add .ensures .0 ∙ add-self-two quarticWords qm31 qm31-representation (pairsOf (c .before .before .before .mul .result)) ∙ ap (quarticWords .mul (two quarticWords)) (c .before .before .before .mul .ensures .0))
+      ∙ ap₂ (sub quarticWords) (c .before .before .add .ensures .0
+      ∙ add-self-two quarticWords qm31 qm31-representation (pairsOf (c .before .before .before .mul .result))
+      ∙ ap (quarticWords .mul (two quarticWords)) (c .before .before .before .mul .ensures .0))
       (ap (λ (a : QM31). pairsOf a) (c .before .one .ensures)),
   c .sub .ensures .1,
 )

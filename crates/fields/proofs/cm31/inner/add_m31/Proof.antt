@@ -12,7 +12,12 @@ add-requires : tie.Need-add-requires
 add-requires c κs = search needs
 
 returns : tie.Need-returns
-returns c = (pair-path (c .add .ensures) refl ∙ add-embed words31 m31 m31-representation (negP 1) (c .before .args .a .0 .0) (c .before .args .a .1 .0) (c .before .args .b) (search needs), (search needs, search needs))
+returns c = (
+  pair-path (c .add .ensures) refl
+      ∙ add-embed words31 m31 m31-representation (negP 1) (c .before .args .a .0 .0) (c .before .args .a .1 .0) (c .before .args .b)
+      (search needs),
+  (search needs, search needs),
+)
 
 pub add-m31-spec : {M : Type 1} → statement M
 add-m31-spec = tie.close (tie.spec add-requires returns)

@@ -28,7 +28,9 @@ neg-requires c κs = search needs
 returns : tie.Need-returns
 returns c = (
   complex-inverse (pairOf (c .before .before .before .before .before .before .before .args .a))
-      (c .before .before .before .before .before .before .mul .ensures) (c .before .before .before .before .before .mul2 .ensures) (c .before .before .before .before .add .ensures) (c .before .before .before .pow2147483645 .ensures) (c .before .before .mul3 .ensures) (c .before .mul4 .ensures) (c .neg .ensures),
+      (c .before .before .before .before .before .before .mul .ensures) (c .before .before .before .before .before .mul2 .ensures)
+      (c .before .before .before .before .add .ensures) (c .before .before .before .pow2147483645 .ensures)
+      (c .before .before .mul3 .ensures) (c .before .mul4 .ensures) (c .neg .ensures),
   (search needs, search needs),
 )
 

@@ -33,8 +33,10 @@ reduce-two-requires-2 c κs = search needs
 
 returns : tie.Need-returns
 returns c = (
-  complex-product (pairOf (c .before .before .before .before .before .before .args .a)) (pairOf (c .before .before .before .before .before .before .args .b))
-      (c .before .before .before .before .before .product .ensures .0) (c .before .before .before .before .product2 .ensures .0) (c .before .before .before .product3 .ensures .0) (c .before .before .product4 .ensures .0)
+  complex-product (pairOf (c .before .before .before .before .before .before .args .a))
+      (pairOf (c .before .before .before .before .before .before .args .b))
+      (c .before .before .before .before .before .product .ensures .0) (c .before .before .before .before .product2 .ensures .0)
+      (c .before .before .before .product3 .ensures .0) (c .before .before .product4 .ensures .0)
       (c .before .before .before .before .product2 .ensures .1) (c .before .reduce-two .ensures) (c .reduce-two2 .ensures),
   (search needs, search needs),
 )

@@ -15,7 +15,12 @@ mul-requires-2 : tie.Need-mul-requires-2
 mul-requires-2 c κs = search needs
 
 returns : tie.Need-returns
-returns c = (pair-path (c .before .mul .ensures) (c .mul2 .ensures) ∙ mul-embed words31 m31 m31-representation (negP 1) (c .before .before .args .a .0 .0) (c .before .before .args .a .1 .0) (c .before .before .args .b), (search needs, search needs))
+returns c = (
+  pair-path (c .before .mul .ensures) (c .mul2 .ensures)
+      ∙ mul-embed words31 m31 m31-representation (negP 1) (c .before .before .args .a .0 .0) (c .before .before .args .a .1 .0)
+      (c .before .before .args .b),
+  (search needs, search needs),
+)
 
 pub mul-m31-spec : {M : Type 1} → statement M
 mul-m31-spec = tie.close (tie.spec mul-requires mul-requires-2 returns)

@@ -12,7 +12,12 @@ sub-requires : tie.Need-sub-requires
 sub-requires c κs = search needs
 
 returns : tie.Need-returns
-returns c = (pair-path (c .sub .ensures) refl ∙ sub-embed words31 m31 m31-representation (negP 1) (c .before .args .a .0 .0) (c .before .args .a .1 .0) (c .before .args .b) (search needs), (search needs, search needs))
+returns c = (
+  pair-path (c .sub .ensures) refl
+      ∙ sub-embed words31 m31 m31-representation (negP 1) (c .before .args .a .0 .0) (c .before .args .a .1 .0) (c .before .args .b)
+      (search needs),
+  (search needs, search needs),
+)
 
 pub sub-m31-spec : {M : Type 1} → statement M
 sub-m31-spec = tie.close (tie.spec sub-requires returns)

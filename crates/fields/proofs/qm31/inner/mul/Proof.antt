@@ -10,7 +10,10 @@ mul-second-requires : tie.Need-mul-second-requires
 mul-second-requires c κs = search needs
 
 returns : tie.Need-returns
-returns c = (pair-path (c .before .mul-first .ensures .0) (c .mul-second .ensures .0), (c .before .mul-first .ensures .1, c .mul-second .ensures .1))
+returns c = (
+  pair-path (c .before .mul-first .ensures .0) (c .mul-second .ensures .0),
+  (c .before .mul-first .ensures .1, c .mul-second .ensures .1),
+)
 
 pub mul-spec : {M : Type 1} → statement M
 mul-spec = tie.close (tie.spec mul-first-requires mul-second-requires returns)

@@ -16,7 +16,12 @@ mul-requires-2 : tie.Need-mul-requires-2
 mul-requires-2 c κs = search needs
 
 returns : tie.Need-returns
-returns c = (pair-path (c .before .mul .ensures .0) (c .mul2 .ensures .0) ∙ mul-embed complexWords cm31 cm31-representation (twoPlusI words31) (pairOf (c .before .before .before .before .args .a .0)) (pairOf (c .before .before .before .before .args .a .1)) (pairOf (c .before .before .before .before .args .b)), (c .before .mul .ensures .1, c .mul2 .ensures .1))
+returns c = (
+  pair-path (c .before .mul .ensures .0) (c .mul2 .ensures .0)
+      ∙ mul-embed complexWords cm31 cm31-representation (twoPlusI words31) (pairOf (c .before .before .before .before .args .a .0))
+      (pairOf (c .before .before .before .before .args .a .1)) (pairOf (c .before .before .before .before .args .b)),
+  (c .before .mul .ensures .1, c .mul2 .ensures .1),
+)
 
 pub mul-cm31-spec : {M : Type 1} → statement M
 mul-cm31-spec = tie.close (tie.spec mul-requires mul-requires-2 returns)

@@ -17,7 +17,12 @@ mul-m31-requires-2 : tie.Need-mul-m31-requires-2
 mul-m31-requires-2 c κs = search needs
 
 returns : tie.Need-returns
-returns c = (pair-path (c .before .mul-m31 .ensures .0) (c .mul-m312 .ensures .0) ∙ mul-embed complexWords cm31 cm31-representation (twoPlusI words31) (pairOf (c .before .before .before .before .args .a .0)) (pairOf (c .before .before .before .before .args .a .1)) (embed words31 (c .before .before .before .before .args .b)), (c .before .mul-m31 .ensures .1, c .mul-m312 .ensures .1))
+returns c = (
+  pair-path (c .before .mul-m31 .ensures .0) (c .mul-m312 .ensures .0)
+      ∙ mul-embed complexWords cm31 cm31-representation (twoPlusI words31) (pairOf (c .before .before .before .before .args .a .0))
+      (pairOf (c .before .before .before .before .args .a .1)) (embed words31 (c .before .before .before .before .args .b)),
+  (c .before .mul-m31 .ensures .1, c .mul-m312 .ensures .1),
+)
 
 pub mul-m31-spec : {M : Type 1} → statement M
 mul-m31-spec = tie.close (tie.spec mul-m31-requires mul-m31-requires-2 returns)

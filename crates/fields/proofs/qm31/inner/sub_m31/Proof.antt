@@ -14,7 +14,12 @@ sub-m31-requires : tie.Need-sub-m31-requires
 sub-m31-requires c κs = search needs
 
 returns : tie.Need-returns
-returns c = (pair-path (c .sub-m31 .ensures .0) refl ∙ sub-embed complexWords cm31 cm31-representation (twoPlusI words31) (pairOf (c .before .before .before .args .a .0)) (pairOf (c .before .before .before .args .a .1)) (embed words31 (c .before .before .before .args .b)) (search needs), (c .sub-m31 .ensures .1, search needs))
+returns c = (
+  pair-path (c .sub-m31 .ensures .0) refl
+      ∙ sub-embed complexWords cm31 cm31-representation (twoPlusI words31) (pairOf (c .before .before .before .args .a .0))
+      (pairOf (c .before .before .before .args .a .1)) (embed words31 (c .before .before .before .args .b)) (search needs),
+  (c .sub-m31 .ensures .1, search needs),
+)
 
 pub sub-m31-spec : {M : Type 1} → statement M
 sub-m31-spec = tie.close (tie.spec sub-m31-requires returns)

@@ -221,7 +221,9 @@ returns-30 c = power-of-doubled _ _ 29 (c .before .match .keys30) (c .constant30
 
 returns-31 : tie.Need-returns-31
 unfolding doubled
-returns-31 c = power-of-doubled _ _ 30 (N.le-antisymm (c .before .before .pre) (past-others 30 (c .before .before .args .log) (c .before .match .rest))) (c .constant31 .ensures)
+returns-31 c = power-of-doubled _ _ 30
+    (N.le-antisymm (c .before .before .pre) (past-others 30 (c .before .before .args .log) (c .before .match .rest)))
+    (c .constant31 .ensures)
 
 pub power-point-spec : {M : Type 1} → statement M
 power-point-spec =
