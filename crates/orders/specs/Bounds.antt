@@ -10,7 +10,7 @@ pub record Offset (domain eval steps : ℕ) : Type 0 where
   pub few : steps ≤ 2 ^ 31
 
 -- a place on a circle of so many, and s places to move
-pub record OnCircle (size p s : ℕ) : Type 0 where
+pub record MoveRoom (size p s : ℕ) : Type 0 where
   pub some : 0 < size
   pub within : p < size
   pub most : size ≤ 2 ^ 31

@@ -13,7 +13,7 @@ use Rattle.algebra.specs.M31.{P, m31}
 use Rattle.fields.specs.Words.{addP, mulP, negP, words31}
 use Rattle.fields.specs.Representation.{solveWords}
 use Rattle.fields.specs.Inverse.{m31-representation}
-use Rattle.transform.specs.Tree.{Words, beside, Invertible, Inverted}
+use Rattle.transform.specs.Tree.{Words, beside, Invertible, InvertedTree}
 use Rattle.transform.specs.Twiddles.{even-or-odd}
 use Rattle.transform.specs.TreeLaws.{neg-mul-neg}
 use Rattle.transform.proofs.Pairs.{written, written-length, written-first, written-second, written-below, written-above}
@@ -137,5 +137,5 @@ module _ {tree : List ℕ} (t : Invertible tree) where
             (m31-representation .mul-reduced _ _) (m31-representation .mul-reduced _ _) tt
             ∙ whole
 
-    pub all-inverted : length now ≤ 2 * i → Inverted tree now
+    pub all-inverted : length now ≤ 2 * i → InvertedTree tree now
     all-inverted h = record { size = v .size; words = v .words; inverse = λ j l. v .done j (omega (arith, v .size)) }

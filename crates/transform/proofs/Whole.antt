@@ -9,7 +9,7 @@ use lib.Seq.{take-at, drop-append-add, drop-drop, length-take-le}
 use Rattle.fields.specs.Words.{words31}
 use Rattle.column.specs.Butterflies.{evaluateBlock, interpolateBlock, scaled}
 use Rattle.transform.specs.Transform.{valuesOf, Column, Coefficients}
-use Rattle.transform.specs.Tree.{Words, PartlyReduced, reducedWords, LineTree, nodeTwiddle, Inverted, Block}
+use Rattle.transform.specs.Tree.{Words, PartlyReduced, reducedWords, LineTree, nodeTwiddle, InvertedTree, Block}
 use Rattle.transform.specs.Elements.{column-words, tree-values, tree-coefficients}
 use Rattle.transform.specs.TreeLaws.{tree-holds, inverse-holds}
 use Rattle.transform.proofs.WordLaws.{words-evaluate, words-scaled}
@@ -56,7 +56,8 @@ module _ (n : ℕ) (column scratch : List ℕ) (lo : 3 ≤ n) (hi : n ≤ 30) (h
     filled-rest =
         let further : 2 ^ n ≡ length tree + half = omega (arith, nodes, whole, h .size) in
         let both : half + half ≡ 2 ^ n = sym whole ∙ h .size in
-        ap (λ (k : ℕ). drop k filled) further ∙ drop-append-add tree (drop half scratch) half ∙ drop-drop half half scratch ∙ ap (λ (k : ℕ). drop k scratch) both
+        ap (λ (k : ℕ). drop k filled) further ∙ drop-append-add tree (drop half scratch) half ∙ drop-drop half half scratch
+        ∙ ap (λ (k : ℕ). drop k scratch) both
 
     -- the whole column is the block below the root
     pub root-block : Words tree → Block column (take half filled) 1 n
@@ -73,16 +74,21 @@ module _ (n : ℕ) (column scratch : List ℕ) (lo : 3 ≤ n) (hi : n ≤ 30) (h
     stands = reduced-same column (column-words n column h)
 
     pub evaluation-block : Words tree → Block (reducedWords column) (take half filled) 1 n × PartlyReduced column
-    evaluation-block w = (subst (λ (c : List ℕ). Block c (take half filled) 1 n) (sym stands) (root-block w), partly-words column (column-words n column h))
+    evaluation-block w =
+        (subst (λ (c : List ℕ). Block c (take half filled) 1 n) (sym stands) (root-block w), partly-words column (column-words n column h))
 
-    pub column-evaluated : LineTree n tree → (exit : List ℕ) → exit ≡ evaluateBlock words31 n (nodeTwiddle (take half filled)) 1 (reducedWords column) → exit ≡ valuesOf n column
+    pub column-evaluated : LineTree n tree → (exit : List ℕ)
+        → exit ≡ evaluateBlock words31 n (nodeTwiddle (take half filled)) 1 (reducedWords column) → exit ≡ valuesOf n column
     column-evaluated t exit e =
-        e ∙ ap (evaluateBlock words31 n (nodeTwiddle (take half filled)) 1) stands ∙ ap (λ (l : List ℕ). evaluateBlock words31 n (nodeTwiddle l) 1 column) tree-taken
-        ∙ tree-values n (omega arith) hi (nodeTwiddle tree) (tree-holds n tree lo hi t) column (h .size) (words-evaluate n (nodeTwiddle tree) 1 column (column-words n column h))
+        e ∙ ap (evaluateBlock words31 n (nodeTwiddle (take half filled)) 1) stands
+        ∙ ap (λ (l : List ℕ). evaluateBlock words31 n (nodeTwiddle l) 1 column) tree-taken
+        ∙ tree-values n (omega arith) hi (nodeTwiddle tree) (tree-holds n tree lo hi t) column (h .size)
+        (words-evaluate n (nodeTwiddle tree) 1 column (column-words n column h))
 
     -- with the inverses of a tree's twiddles: 2^n times the coefficients
-    pub column-interpolated : (lines : List ℕ) → LineTree n lines → Inverted lines tree → (exit : List ℕ)
-        → exit ≡ scaled words31 (2 ^ (31 - n)) (interpolateBlock words31 n (nodeTwiddle (take half filled)) 1 column) → Coefficients n exit column
+    pub column-interpolated : (lines : List ℕ) → LineTree n lines → InvertedTree lines tree → (exit : List ℕ)
+        → exit ≡ scaled words31 (2 ^ (31 - n)) (interpolateBlock words31 n (nodeTwiddle (take half filled)) 1 column)
+        → Coefficients n exit column
     column-interpolated lines t inverted exit e =
         let is : exit ≡ scaled words31 (2 ^ (31 - n)) (interpolateBlock words31 n (nodeTwiddle tree) 1 column)
         = e ∙ ap (λ (l : List ℕ). scaled words31 (2 ^ (31 - n)) (interpolateBlock words31 n (nodeTwiddle l) 1 column)) tree-taken in

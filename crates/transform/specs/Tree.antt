@@ -64,7 +64,7 @@ pub record Invertible (tree : List ℕ) : Type 0 where
   pub children : (i : ℕ) → 0 < i → 2 * i < length tree → mulP 2 (mulP (getD tree (2 * i) 0) (getD tree (2 * i + 1) 0)) ≡ beside tree i
 
 -- word by word the inverses of a tree
-pub record Inverted (tree exit : List ℕ) : Type 0 where
+pub record InvertedTree (tree exit : List ℕ) : Type 0 where
   pub size : length exit ≡ length tree
   pub words : Words exit
   pub inverse : (j : ℕ) → j < length tree → mulP (getD exit j 0) (getD tree j 0) ≡ 1

@@ -21,7 +21,7 @@ use Rattle.circle.specs.IndexPoints.{index-below}
 use Rattle.domains.specs.BitReversed.{halfIndex, halfPoint, half-neighbour, half-add-quarter, half-point-one}
 use Rattle.domains.specs.Doubled.{half-double-x, half-double-y, half-two}
 use Rattle.column.specs.Tree.{HoldsTwiddles}
-use Rattle.transform.specs.Tree.{Words, LineTree, circleTwiddle, nodeTwiddle, beside, Invertible, Inverted}
+use Rattle.transform.specs.Tree.{Words, LineTree, circleTwiddle, nodeTwiddle, beside, Invertible, InvertedTree}
 use Rattle.transform.specs.Twiddles.{twiddle, even-or-odd}
 use Rattle.transform.specs.Elements.{fieldTwiddle, fieldInverse}
 
@@ -226,7 +226,7 @@ module _ (n : ℕ) (tree : List ℕ) (lo : 3 ≤ n) (hi : n ≤ 30) (t : LineTre
 
   -- ---- the inverted tree holds the inverses
 
-  module _ (exit : List ℕ) (i : Inverted tree exit) where
+  module _ (exit : List ℕ) (i : InvertedTree tree exit) where
     circle-twiddle-inverse : (r x y u v : ℕ) → mulP u x ≡ 1 → mulP v y ≡ 1 → mulP (circleTwiddle r u v) (circleTwiddle r x y) ≡ 1
     unfolding circleTwiddle
     circle-twiddle-inverse zero x y u v e f = f

@@ -7,7 +7,8 @@ ghost use Rattle.algebra.specs.M31.{P};
 ghost use Rattle.algebra.specs.Circle.{plus};
 ghost use Rattle.fields.specs.Words.{mulP, words31};
 ghost use Rattle.circle.specs.Point.{pointOf, Reduced};
-ghost use Rattle.transform.specs.Tree.{Words, LinesFrom, LineTree, beside, Invertible, Inverted, Points, Extended, Stepped, Doubled};
+ghost use Rattle.transform.specs.Tree.{Words, LinesFrom, LineTree, beside, Invertible};
+ghost use Rattle.transform.specs.Tree.{InvertedTree, Points, Extended, Stepped, Doubled};
 use circle::index::inner::powers::power_point;
 use circle::point::CirclePoint;
 use circle::point::inner as point;
@@ -136,7 +137,7 @@ fn twice_product(y: u32, s: u32) -> u32
 // 1 / x is 2ys and 1 / y is 2xs. The root has 2x² = 1.
 pub fn invert(tree: &mut [u32])
     requires { ⌜ Invertible (now tree) ⌝ }
-    ensures { λ _. ⌜ Inverted (now (tree .entry)) (now (tree .exit)) ⌝ }
+    ensures { λ _. ⌜ InvertedTree (now (tree .entry)) (now (tree .exit)) ⌝ }
 {
     let root = tree[1];
     let inverse = m31::add(root, root);

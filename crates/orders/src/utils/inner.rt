@@ -6,7 +6,7 @@ ghost use lib.ListN.{length, getD, set, drop};
 ghost use Rattle.orders.specs.BitReverse.{reverseBits};
 ghost use Rattle.orders.specs.Orders.{bitReverseIndex, toDomain, toCoset, reordered, logSize, cosetBitReversed};
 ghost use Rattle.orders.specs.Orders.{isSmallerDomain, moved, offsetElement, offsetIndex};
-ghost use Rattle.orders.specs.Bounds.{Offset, OnCircle, OnHalves, RowRoom, BlockRoom, HasBlocks, PairRoom, CopyRoom};
+ghost use Rattle.orders.specs.Bounds.{Offset, MoveRoom, OnHalves, RowRoom, BlockRoom, HasBlocks, PairRoom, CopyRoom};
 ghost use Rattle.orders.specs.Swaps.{swapped, swappedIfBefore, rowSwapped, blockSwapped, pairSwapped};
 use fields::log_size::inner::two_to;
 use fields::log_size::is_log_size;
@@ -248,7 +248,7 @@ pub fn is_smaller_domain(domain: u32, eval: u32) -> bool
 
 // s places from p round a circle of so many places.
 fn moved(back: bool, size: u64, p: u64, s: u64) -> u64
-    requires { ⌜ OnCircle size p s ⌝ }
+    requires { ⌜ MoveRoom size p s ⌝ }
     ensures { λ r. ⌜ r ≡ moved back size p s ⌝ }
 {
     if back {

@@ -5,9 +5,10 @@ use native.Mathlib.Omega.{arith}
 use lib.ListN.{length}
 use borrow.Author.Needs.{needs}
 use Rattle.transform.specs.Transform.{Coefficients}
-use Rattle.transform.specs.Tree.{Invertible, Inverted}
+use Rattle.transform.specs.Tree.{Invertible, InvertedTree}
 use Rattle.transform.specs.TreeLaws.{tree-invertible}
-use Rattle.transform.proofs.Whole.{filled, column-of, tree-part, tree-size, tree-taken, taken-length, filled-length, filled-rest, root-block, column-interpolated}
+use Rattle.transform.proofs.Whole.{filled, column-of, tree-part, tree-size, tree-taken, taken-length}
+use Rattle.transform.proofs.Whole.{filled-length, filled-rest, root-block, column-interpolated}
 use Rattle.transform.proofs.interpolation.interpolate.Statement.{statement}
 use Rattle.transform.proofs.interpolation.interpolate.Tie as tie
 
@@ -27,7 +28,8 @@ returns c =
     let scale = c .before .before .scale in
     let two = c .before .before .before .before .before .before .interpolate-two in
     let s = c .before .before .before .before .before .before .before .before .before .before .before in (
-      subst (λ (n : ℕ). Coefficients n (scale .last .0) (s .args .column .now)) (sym (c .before .before .before .before .before .before .before .before .if1 .taken))
+      subst (λ (n : ℕ). Coefficients n (scale .last .0) (s .args .column .now))
+          (sym (c .before .before .before .before .before .before .before .before .if1 .taken))
           (subst (λ (l : List ℕ). Coefficients 1 l (s .args .column .now)) (sym (scale .ensures)) (two .ensures .coefficients)),
       refl,
       refl,
@@ -49,7 +51,8 @@ returns-2 c =
     let scale = c .before .before .scale2 in
     let four = c .before .before .before .before .before .before .interpolate-four in
     let s = c .before .before .before .before .before .before .before .before .before .before .before .before in (
-      subst (λ (n : ℕ). Coefficients n (scale .last .0) (s .args .column .now)) (sym (c .before .before .before .before .before .before .before .before .if2 .taken))
+      subst (λ (n : ℕ). Coefficients n (scale .last .0) (s .args .column .now))
+          (sym (c .before .before .before .before .before .before .before .before .if2 .taken))
           (subst (λ (l : List ℕ). Coefficients 2 l (s .args .column .now)) (sym (scale .ensures)) (four .ensures .coefficients)),
       refl,
       refl,
@@ -65,8 +68,12 @@ slice-aggregate-fill c =
 
 fill-requires : tie.Need-fill-requires
 fill-requires c κs =
-    let s = c .before .before .before .before .before in
-    (omega arith, s .pre .1, tree-size (s .args .log-size) (s .args .column .now) (s .args .scratch .now) (omega arith) (s .pre .1) (s .pre .2) (s .pre .3))
+    let s = c .before .before .before .before .before in (
+      omega arith,
+      s .pre .1,
+      tree-size (s .args .log-size) (s .args .column .now) (s .args .scratch .now) (omega arith) (s .pre .1)
+          (s .pre .2) (s .pre .3),
+    )
 
 slice-relend-prefix-invert : tie.Need-slice-relend-prefix-invert
 slice-relend-prefix-invert c = search needs
@@ -75,14 +82,17 @@ slice-aggregate-invert : tie.Need-slice-aggregate-invert
 slice-aggregate-invert c =
     let fill = c .before .before .before .fill in
     let s = c .before .before .before .before .before .before .before .before .before in
-    taken-length (s .args .log-size) (s .args .column .now) (s .args .scratch .now) (omega arith) (s .pre .1) (s .pre .2) (s .pre .3) (fill .last .0) (fill .kept .0)
+    taken-length (s .args .log-size) (s .args .column .now) (s .args .scratch .now) (omega arith) (s .pre .1) (s .pre .2) (s .pre .3)
+    (fill .last .0) (fill .kept .0)
 
 invert-requires : tie.Need-invert-requires
 invert-requires c κs =
     let fill = c .before .before .before .fill in
     let s = c .before .before .before .before .before .before .before .before .before in
     let lo : 3 ≤ s .args .log-size = omega arith in
-    subst (λ (l : List ℕ). Invertible l) (sym (tree-taken (s .args .log-size) (s .args .column .now) (s .args .scratch .now) lo (s .pre .1) (s .pre .2) (s .pre .3) (fill .last .0) (fill .kept .0)))
+    subst (λ (l : List ℕ). Invertible l)
+    (sym (tree-taken (s .args .log-size) (s .args .column .now) (s .args .scratch .now) lo (s .pre .1) (s .pre .2) (s .pre .3)
+    (fill .last .0) (fill .kept .0)))
     (tree-invertible (s .args .log-size) (fill .last .0) lo (s .pre .1) (fill .ensures))
 
 slice-reshare-prefix-block : tie.Need-slice-reshare-prefix-block
@@ -98,8 +108,11 @@ slice-aggregate-block c =
     let fill = c .before .before .before .before .before .before .before .before .fill in
     let s = c .before .before .before .before .before .before .before .before .before .before .before .before .before .before in
     let lo : 3 ≤ s .args .log-size = omega arith in
-    let first = filled (s .args .log-size) (s .args .column .now) (s .args .scratch .now) lo (s .pre .1) (s .pre .2) (s .pre .3) (fill .last .0) (fill .kept .0) in
-    let room = filled-room (s .args .log-size) (s .args .scratch .now) first (filled-length (s .args .log-size) (s .args .column .now) (s .args .scratch .now) lo (s .pre .1) (s .pre .2) (s .pre .3) (fill .last .0) (fill .kept .0)) (s .pre .3) in
+    let first = filled (s .args .log-size) (s .args .column .now) (s .args .scratch .now) lo (s .pre .1) (s .pre .2) (s .pre .3)
+    (fill .last .0) (fill .kept .0) in
+    let room = filled-room (s .args .log-size) (s .args .scratch .now) first
+    (filled-length (s .args .log-size) (s .args .column .now) (s .args .scratch .now) lo (s .pre .1) (s .pre .2) (s .pre .3) (fill .last .0)
+    (fill .kept .0)) (s .pre .3) in
     taken-length (s .args .log-size) (s .args .column .now) first lo (s .pre .1) (s .pre .2) room (invert .last .0) (invert .kept .0)
 
 sub-block : tie.Need-sub-block
@@ -111,9 +124,16 @@ block-requires c κs =
     let fill = c .before .before .before .before .before .before .before .before .fill in
     let s = c .before .before .before .before .before .before .before .before .before .before .before .before .before .before in
     let lo : 3 ≤ s .args .log-size = omega arith in
-    let first = filled (s .args .log-size) (s .args .column .now) (s .args .scratch .now) lo (s .pre .1) (s .pre .2) (s .pre .3) (fill .last .0) (fill .kept .0) in
-    let room = filled-room (s .args .log-size) (s .args .scratch .now) first (filled-length (s .args .log-size) (s .args .column .now) (s .args .scratch .now) lo (s .pre .1) (s .pre .2) (s .pre .3) (fill .last .0) (fill .kept .0)) (s .pre .3) in
-    (root-block (s .args .log-size) (s .args .column .now) first lo (s .pre .1) (s .pre .2) room (invert .last .0) (invert .kept .0) (invert .ensures .words), omega arith, omega arith)
+    let first = filled (s .args .log-size) (s .args .column .now) (s .args .scratch .now) lo (s .pre .1) (s .pre .2) (s .pre .3)
+    (fill .last .0) (fill .kept .0) in
+    let room = filled-room (s .args .log-size) (s .args .scratch .now) first
+    (filled-length (s .args .log-size) (s .args .column .now) (s .args .scratch .now) lo (s .pre .1) (s .pre .2) (s .pre .3) (fill .last .0)
+    (fill .kept .0)) (s .pre .3) in (
+      root-block (s .args .log-size) (s .args .column .now) first lo (s .pre .1) (s .pre .2) room (invert .last .0) (invert .kept .0)
+          (invert .ensures .words),
+      omega arith,
+      omega arith,
+    )
 
 same-length-3 : tie.Need-same-length-3
 same-length-3 c = search needs
@@ -126,17 +146,25 @@ returns-3 c =
     let block = c .before .before .block in
     let invert = c .before .before .before .before .before .before .before .invert in
     let fill = c .before .before .before .before .before .before .before .before .before .before .before .fill in
-    let s = c .before .before .before .before .before .before .before .before .before .before .before .before .before .before .before .before .before in
+    let d = c .before .before .before .before .before .before .before .before .before in
+    let s = d .before .before .before .before .before .before .before .before in
     let lo : 3 ≤ s .args .log-size = omega arith in
-    let first = filled (s .args .log-size) (s .args .column .now) (s .args .scratch .now) lo (s .pre .1) (s .pre .2) (s .pre .3) (fill .last .0) (fill .kept .0) in
-    let same = filled-length (s .args .log-size) (s .args .column .now) (s .args .scratch .now) lo (s .pre .1) (s .pre .2) (s .pre .3) (fill .last .0) (fill .kept .0) in
+    let first = filled (s .args .log-size) (s .args .column .now) (s .args .scratch .now) lo (s .pre .1) (s .pre .2) (s .pre .3)
+    (fill .last .0) (fill .kept .0) in
+    let same = filled-length (s .args .log-size) (s .args .column .now) (s .args .scratch .now) lo (s .pre .1) (s .pre .2) (s .pre .3)
+    (fill .last .0) (fill .kept .0) in
     let room = filled-room (s .args .log-size) (s .args .scratch .now) first same (s .pre .3) in
-    let inverted = subst (λ (l : List ℕ). Inverted l (invert .last .0)) (tree-taken (s .args .log-size) (s .args .column .now) (s .args .scratch .now) lo (s .pre .1) (s .pre .2) (s .pre .3) (fill .last .0) (fill .kept .0)) (invert .ensures) in (
-      column-interpolated (s .args .log-size) (s .args .column .now) first lo (s .pre .1) (s .pre .2) room (invert .last .0) (invert .kept .0)
+    let inverted = subst (λ (l : List ℕ). InvertedTree l (invert .last .0))
+    (tree-taken (s .args .log-size) (s .args .column .now) (s .args .scratch .now) lo (s .pre .1) (s .pre .2) (s .pre .3) (fill .last .0)
+    (fill .kept .0)) (invert .ensures) in (
+      column-interpolated (s .args .log-size) (s .args .column .now) first lo (s .pre .1) (s .pre .2) room (invert .last .0)
+          (invert .kept .0)
           (fill .last .0) (fill .ensures) inverted (block .last .0) (block .ensures),
-      filled-length (s .args .log-size) (s .args .column .now) first lo (s .pre .1) (s .pre .2) room (invert .last .0) (invert .kept .0) ∙ same,
+      filled-length (s .args .log-size) (s .args .column .now) first lo (s .pre .1) (s .pre .2) room (invert .last .0)
+          (invert .kept .0) ∙ same,
       filled-rest (s .args .log-size) (s .args .column .now) first lo (s .pre .1) (s .pre .2) room (invert .last .0) (invert .kept .0)
-          ∙ filled-rest (s .args .log-size) (s .args .column .now) (s .args .scratch .now) lo (s .pre .1) (s .pre .2) (s .pre .3) (fill .last .0) (fill .kept .0),
+          ∙ filled-rest (s .args .log-size) (s .args .column .now) (s .args .scratch .now) lo (s .pre .1) (s .pre .2) (s .pre .3)
+          (fill .last .0) (fill .kept .0),
     )
 
 pub interpolate-spec : {M : Type 1} → statement M

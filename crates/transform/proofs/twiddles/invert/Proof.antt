@@ -5,7 +5,7 @@ use native.Mathlib.Nat as N
 use native.Mathlib.Omega.{arith}
 use lib.ListN.{length, set, length-set}
 use borrow.Author.Needs.{needs}
-use Rattle.transform.specs.Tree.{Invertible, Inverted}
+use Rattle.transform.specs.Tree.{Invertible, InvertedTree}
 use Rattle.transform.proofs.Pairs.{written-length}
 use Rattle.transform.proofs.Inverting.{Inverting, put-back, root-inverted, children-inverted, all-inverted}
 use Rattle.transform.proofs.twiddles.invert.Statement.{statement}
@@ -114,7 +114,8 @@ loop-again c =
       at .loop .inv .2 ∙ sym (written-length (at .loop .tree) (2 * i) u v),
       at .loop .inv .3,
       children-inverted (subst Invertible (sym (put-back (a .args .tree .now) r r (a .pre))) (a .pre)) (at .loop .inv .4)
-          (b .beside .result) u v (at .loop .inv .0) (omega arith) (b .beside .ensures .0) (c .before .twice-product .ensures) (c .twice-product2 .ensures),
+          (b .beside .result) u v (at .loop .inv .0) (omega arith) (b .beside .ensures .0) (c .before .twice-product .ensures)
+          (c .twice-product2 .ensures),
     )
 
 same-length : tie.Need-same-length Inv-loop μ-loop
@@ -130,7 +131,7 @@ returns c =
     let a = at .before .before .before .before in
     let r = at .before .add .result in
     let same = put-back (a .args .tree .now) r r (a .pre) in
-    subst (λ (l : List ℕ). Inverted l (at .loop .tree)) same
+    subst (λ (l : List ℕ). InvertedTree l (at .loop .tree)) same
     (all-inverted (subst Invertible (sym same) (a .pre)) (at .loop .inv .4) (omega arith))
 
 pub invert-spec : {M : Type 1} → statement M
