@@ -203,7 +203,8 @@ pub fn batch_inverse_chunked(
 ) -> WriteAnswer
     ensures { λ r. ⌜ (r ≡ chunkedAnswer (columnOf field) chunk (now (column .entry)) (length (now (dst .entry))))
         × (now (dst .exit) ≡ batchExit (columnOf field)
-        (chunkedAnswer (columnOf field) chunk (now (column .entry)) (length (now (dst .entry)))) (now (column .entry)) (now (dst .entry))) ⌝ }
+        (chunkedAnswer (columnOf field) chunk (now (column .entry)) (length (now (dst .entry))))
+        (now (column .entry)) (now (dst .entry))) ⌝ }
 {
     let answer = check(field, chunk, column, dst.len());
     let WriteAnswer::Written = answer else {

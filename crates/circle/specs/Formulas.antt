@@ -1,4 +1,4 @@
--- Document 01's formulas of points over any operations, beyond those of `algebra` (plus, zeroPoint, multiple, doubleX, double).
+-- Formulas of points over any operations, beyond those of `algebra` (plus, zeroPoint, multiple, doubleX, double).
 use Prim.Native.Nat.{_+_, _^_}
 use mathlib.Core.Bool.{Bool, false}
 use lib.Dec.{eqb}

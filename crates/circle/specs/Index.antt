@@ -1,4 +1,4 @@
--- What each call of point indices answers: the refusals of document 01's table in its order, then numbers modulo 2^31.
+-- What each call of point indices answers: the refusals of the table in docs/CALLS.md in its order, then numbers modulo 2^31.
 use Prim.Native.Nat.{ℕ, _+_, _-_, _*_, _/_, _%_, _^_, _≤_}
 use mathlib.Core.Bool.{Bool}
 use mathlib.Core.List.{_++_}

@@ -1,4 +1,4 @@
--- What each call of points over M31 answers: the refusals of document 01's table in its order, then its formulas modulo P.
+-- What each call of points over M31 answers: the refusals of the table in docs/CALLS.md in its order, then its formulas modulo P.
 use Prim.Native.Nat.{ℕ, _<_}
 use mathlib.Core.Bool.{Bool, not, _&&_}
 use mathlib.Core.List.{_++_}

@@ -1,4 +1,4 @@
--- Document 01's transform over any operations: what goes with each coefficient, and the values of a list of coefficients.
+-- The transform over any operations: what goes with each coefficient, and the values of a list of coefficients.
 use Prim.Native.Nat.{ℕ, zero, suc, _/_, _%_, _^_}
 use mathlib.Core.Bool.{cond}
 use mathlib.Core.List.{List}

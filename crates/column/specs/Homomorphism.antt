@@ -42,7 +42,7 @@ module _ {X Y : Type 0} (f : X → Y) where
 module _ (A B : Ops) (f : A .El → B .El) (H : Homomorphism A B f) where
   open Homomorphism H using (to-zero, to-one, to-add, to-mul, to-neg)
 
-  -- ---- document 01's sums
+  -- ---- the transform's sums
 
   pub to-factor : (p : A .El × A .El) (t : ℕ) → f (factor A p t) ≡ factor B (onPair f p) t
   unfolding factor

@@ -1,4 +1,4 @@
--- Over any commutative ring: evaluation by halves gives document 01's sums, interpolation undoes it on both sides, and so
+-- Over any commutative ring: evaluation by halves gives the transform's sums, interpolation undoes it on both sides, and so
 -- exactly one list of coefficients gives a list of values.
 use Prim.Native.Nat.{ℕ, _+_, _*_, _^_, _<_}
 use mathlib.Core.Path.{_≡_, sym, _∙_, ap}

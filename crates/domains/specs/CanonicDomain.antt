@@ -46,7 +46,7 @@ pub record CanonicDomain (n : ℕ) : Type 0 where
       ≡ Next (ofIndex (domainIndex n i)) (domainSteps (suc i) (domainIteratorOf (halfOf n)))
   pub done : (i : ℕ) → 2 ^ n ≤ i
       → domainNextAnswer (domainSteps i (domainIteratorOf (halfOf n))) ≡ Done (domainSteps (suc i) (domainIteratorOf (halfOf n)))
-  -- the points are all different, and exactly those that document 01 names
+  -- the points are all different, and exactly those that `PointSet` names
   pub pointSet : PointSet n
 
 -- ---- proof

@@ -1,4 +1,4 @@
--- Document 01's lists of indices: the canonic coset of log size n, and its circle domain.
+-- The lists of indices of the canonic coset of log size n, and its circle domain.
 use Prim.Native.Nat.{ℕ, _+_, _-_, _*_, _%_, _^_}
 use mathlib.Core.List.{List, _++_, map}
 use lib.ListN.{getD}

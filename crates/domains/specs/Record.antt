@@ -1,4 +1,4 @@
--- What a call checks of a coset record: document 01's rows log sizes, indices and words, fields in their order.
+-- What a call checks of a coset record: the rows log size, index and word of the table, fields in their order.
 use Prim.Native.Nat.{ℕ, _≤_}
 use mathlib.Core.List.{_++_}
 use lib.Dec.{leb}

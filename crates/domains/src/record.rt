@@ -1,4 +1,4 @@
-// What a call checks of a coset record: row after row of document 01's table.
+// What a call checks of a coset record: row after row of the table in docs/CALLS.md.
 ghost use mathlib.Core.Path.{_≡_};
 ghost use Rattle.fields.specs.Check.{outcome};
 ghost use Rattle.circle.specs.Index.{inRange};

@@ -1,4 +1,4 @@
--- What each call of CM31 answers: the refusals of document 01's table in its order, then its pair formulas, i² = -1.
+-- What each call of CM31 answers: the refusals of the table in docs/CALLS.md in its order, then its pair formulas, i² = -1.
 use Prim.Native.Nat.{ℕ, _<_}
 use mathlib.Core.Bool.{Bool, not, _&&_}
 use mathlib.Core.List.{_++_}

@@ -1,4 +1,4 @@
--- What a call checks before it does anything: tests in the order of document 01's table, each with the refusal that is made
+-- What a call checks before it does anything: tests in the order of the table in docs/CALLS.md, each with the refusal that is made
 -- where it is the first to fail. First these and then those is `++`.
 use mathlib.Core.Bool.{Bool, cond}
 use mathlib.Core.List.{List, [], _∷_}

@@ -1,4 +1,4 @@
--- What each call of M31 answers: the refusals of document 01's table in its order, then arithmetic modulo P.
+-- What each call of M31 answers: the refusals of the table in docs/CALLS.md in its order, then arithmetic modulo P.
 use Prim.Native.Nat.{ℕ, suc, _*_, _%_, _^_}
 use mathlib.Core.Bool.{not}
 use mathlib.Core.List.{_++_}

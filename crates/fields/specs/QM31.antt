@@ -1,4 +1,4 @@
--- What each call of QM31 answers: the refusals of document 01's table in its order, then its pair formulas, u² = 2 + i.
+-- What each call of QM31 answers: the refusals of the table in docs/CALLS.md in its order, then its pair formulas, u² = 2 + i.
 use Prim.Native.Nat.{ℕ}
 use mathlib.Core.Bool.{Bool, not, _&&_}
 use mathlib.Core.List.{List, _++_}

@@ -1,4 +1,4 @@
--- Document 01's number of each refusal, and its position.
+-- The number of each refusal, and its position.
 use Prim.Native.Nat.{ℕ}
 use Rattle.fields.specs.declared.refusal.Refusal.{Refusal}
 use Rattle.fields.specs.declared.refusal.Refusal.the-variants.{LogSize, Index, Scalar, Length, Chunk, Word, Reduction}

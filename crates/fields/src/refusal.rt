@@ -1,4 +1,4 @@
-// Why a call is refused: one case for each row of document 01's table, in its order, with the position where the row has one.
+// Why a call is refused: one case for each row of the table in docs/CALLS.md, in its order, with the position where the row has one.
 ghost use mathlib.Core.Path.{_≡_};
 ghost use Rattle.fields.specs.Refusal.{numberOf, positionOf};
 

@@ -12,7 +12,7 @@ use Rattle.orders.specs.BitReverse.{reverseBits, reversed-below, reverse
 use Rattle.orders.specs.BitReverse.{reversed-second-half, reversed-complement}
 use Rattle.orders.specs.Orders.{bitReverseIndex, wordsAt, reordered, toDomain, toCoset, cosetBitReversed}
 
--- ---- the index of document 01 is the reverse, but for log size 0
+-- ---- `bitReverseIndex` is the reverse, but for log size 0
 
 pub index-from-one : (i n : ℕ) → 1 ≤ n → bitReverseIndex i n ≡ reverseBits n i
 unfolding bitReverseIndex

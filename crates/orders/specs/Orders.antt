@@ -1,4 +1,4 @@
--- Where every word of a column goes, and what each call answers: document 01's Orders, and its offset and previous.
+-- Where every word of a column goes, and what each call of orders answers, offset and previous among them.
 use Prim.Native.Nat.{ℕ, zero, suc, _+_, _-_, _*_, _/_, _%_, _^_}
 use mathlib.Core.Bool.{Bool, true, cond, not, _&&_}
 use mathlib.Core.List.{List, [], _∷_, _++_}
@@ -109,7 +109,7 @@ offsetAnswer i domain eval offset =
     checked (need (isSmallerDomain domain eval) LogSize ++ need (leb (partsOf offset .size) (2 ^ 31)) Scalar) Refused
     (Value (offsetIndex i domain eval (partsOf offset .negative) (partsOf offset .size)))
 
--- such log sizes, else number 6; one step back
+-- eval in 1..30 and domain below it, else number 6; one step back
 unfoldable pub previousAnswer : ℕ → ℕ → ℕ → U64Answer
 previousAnswer i domain eval =
     checked (need (isSmallerDomain domain eval) LogSize) Refused (Value (offsetIndex i domain eval true 1))

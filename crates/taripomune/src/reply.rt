@@ -1,4 +1,4 @@
-// Replies: document 01's number (0: accepted) and position, then the values (0 on a refusal).
+// Replies: the refusal's number (0: accepted) and position, then the values (0 on a refusal).
 ghost use mathlib.Core.Path.{_≡_};
 ghost use Rattle.taripomune.specs.Reply.{m31Reply, boolReply, u32Reply, u64Reply, cm31Reply, qm31Reply};
 ghost use Rattle.taripomune.specs.Reply.{arrayReply, pointReply, securePointReply, indexReply, writeReply};

@@ -1,4 +1,4 @@
--- The cases that document 01 marks, over the definitions that the contracts cite.
+-- The cases that the scope document wants proved one by one, over the definitions that the contracts cite.
 use Prim.Native.Nat.{ℕ, zero, suc, _-_, _*_, _%_, _^_, _≤_, _<_}
 use mathlib.Core.Path.{_≡_, refl, sym, _∙_, ap}
 use mathlib.Core.Bool.{false}

@@ -1,4 +1,4 @@
--- Document 01's transform on columns of words, and what each call answers and leaves.
+-- The transform on columns of words, and what each call answers and leaves.
 use Prim.Native.Nat.{ℕ, _^_, _<_}
 use mathlib.Core.Path.{_≡_}
 use mathlib.Core.List.{List, _++_}

@@ -1,4 +1,4 @@
-// The transform between a column's values on the canonic circle domain and its coefficients (document 01, Transform).
+// The transform between a column's values on the canonic circle domain and its coefficients.
 ghost use mathlib.Core.Path.{_≡_};
 ghost use lib.ListN.{length};
 ghost use Rattle.transform.specs.Transform.{transformAnswer, Evaluated, Interpolated};

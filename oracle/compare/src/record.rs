@@ -14,7 +14,7 @@ pub fn header(module: &str, slices: bool, free: bool, seed: u64) -> String {
     let text = format!(
         "# Answers of the functions with C linkage: {module}.\n\
          # Recorded by `oracle/` with seed {seed}, beside the Rust of starkware-libs/stwo, commit 826591c6c3.\n\
-         # Accepted inputs have the Rust's answer, refused ones the refusal that document 01 demands.\n\
+         # Accepted inputs have the Rust's answer, refused ones the refusal of the table in docs/CALLS.md.\n\
          # Each line is NAME ARG .. ARG = NUMBER POSITION VALUE .. VALUE, the name without `tari_`, in decimal.\n\
          # NUMBER and POSITION are 0 0 or the refusal. A 128-bit number is two arguments, high and low.\n"
     );
