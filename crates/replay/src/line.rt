@@ -16,21 +16,6 @@ pub fn until(text: &[u8], at: usize, stop: u8) -> usize
     i
 }
 
-// Which of the words of a list is the name, counted from 0; the number of words where none is.
-pub fn place_of(name: &[u8], list: &[u8]) -> usize {
-    let mut place: usize = 0;
-    let mut at = 0;
-    while at < list.len() {
-        let end = until(list, at, b' ');
-        if check::same(name, &list[at..end]) {
-            return place;
-        }
-        place = std::num::wrapping_add_usize(place, 1);
-        at = end + 1;
-    }
-    place
-}
-
 pub fn is_comment(line: &[u8]) -> bool {
     if line.len() == 0 {
         return false;
@@ -38,15 +23,16 @@ pub fn is_comment(line: &[u8]) -> bool {
     line[0] == b'#'
 }
 
-// A number of a line, if it is one.
+// A word of a line: the size of a number from zero on or of one below zero, or no number.
 pub enum Number {
-    Value(u64),
+    Natural(u64),
+    Negative(u64),
     Bad,
 }
 
 // One more decimal digit, where the number stays below 2^64.
 fn digit(before: Number, byte: u8) -> Number {
-    let Number::Value(value) = before else {
+    let Number::Natural(value) = before else {
         return Number::Bad;
     };
     if byte < b'0' {
@@ -63,11 +49,15 @@ fn digit(before: Number, byte: u8) -> Number {
     if 18446744073709551615 - units < tens {
         return Number::Bad;
     }
-    Number::Value(tens + units)
+    Number::Natural(tens + units)
 }
 
+// The number of one or more digits.
 fn digits(word: &[u8]) -> Number {
-    let mut n = Number::Value(0);
+    if word.len() == 0 {
+        return Number::Bad;
+    }
+    let mut n = Number::Natural(0);
     let mut i = 0;
     while i < word.len() {
         n = digit(n, word[i]);
@@ -78,12 +68,18 @@ fn digits(word: &[u8]) -> Number {
 
 fn negated(n: Number) -> Number {
     match n {
-        Number::Value(value) => Number::Value(std::num::wrapping_sub_u64(0, value)),
+        Number::Natural(size) => {
+            if size == 0 {
+                return Number::Bad;
+            }
+            Number::Negative(size)
+        }
+        Number::Negative(_) => Number::Bad,
         Number::Bad => Number::Bad,
     }
 }
 
-// The number of a word in decimal; below zero, modulo 2^64.
+// The number of a word in decimal, with the sign - below zero.
 pub fn number_of(word: &[u8]) -> Number {
     if word.len() == 0 {
         return Number::Bad;

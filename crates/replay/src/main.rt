@@ -1,36 +1,11 @@
 // Replays the recorded answers of data/ through the C entry points, and prints how many came out as recorded.
-mod batch_inverse;
-mod canonic_coset;
-mod circle_domain;
-mod circle_transform;
-mod cm31;
-mod column_orders;
-mod coset;
-mod index;
+mod arguments;
+mod calls;
 mod line;
-mod m31;
-mod point;
-mod qm31;
+mod reply;
 mod row;
-mod secure_point;
 mod slices;
 mod values;
-
-// Whose functions the lines of a file name; the prefix of a name as m31_add_cm31 does not tell.
-enum Module {
-    M31,
-    CM31,
-    QM31,
-    Batch,
-    Point,
-    SecurePoint,
-    Index,
-    Orders,
-    Coset,
-    CanonicCoset,
-    CircleDomain,
-    Transform,
-}
 
 struct Tally {
     same: u64,
@@ -50,40 +25,31 @@ fn counted(t: Tally, same: bool) -> Tally {
     }
 }
 
-fn called(which: Module, name: &[u8], row: row::Row) -> row::Reply {
-    match which {
-        Module::M31 => m31::called(name, row),
-        Module::CM31 => cm31::called(name, row),
-        Module::QM31 => qm31::called(name, row),
-        Module::Batch => batch_inverse::called(name, row),
-        Module::Point => point::called(name, row),
-        Module::SecurePoint => secure_point::called(name, row),
-        Module::Index => index::called(name, row),
-        Module::Orders => column_orders::called(name, row),
-        Module::Coset => coset::called(name, row),
-        Module::CanonicCoset => canonic_coset::called(name, row),
-        Module::CircleDomain => circle_domain::called(name, row),
-        Module::Transform => circle_transform::called(name, row),
+fn called(name: &[u8], row: row::Row) -> reply::Reply {
+    let reply = calls::called(name, row);
+    if reply.count != 0 {
+        return reply;
     }
+    slices::called(name, row)
 }
 
 // Whether the line's call answers as the line says.
-fn as_recorded(which: Module, line: &[u8]) -> bool {
+fn as_recorded(line: &[u8]) -> bool {
     let end = line::until(line, 0, b' ');
     let row = row::read(line, end);
-    row::answers(row, called(which, &line[..end], row))
+    row::answers(row, called(&line[..end], row))
 }
 
 // A comment says nothing; any other line is an answer.
-fn replayed(which: Module, t: Tally, line: &[u8]) -> Tally {
+fn replayed(t: Tally, line: &[u8]) -> Tally {
     if line::is_comment(line) {
         return t;
     }
-    counted(t, as_recorded(which, line))
+    counted(t, as_recorded(line))
 }
 
 // The lines of a text.
-fn replayed_all(which: Module, text: &[u8]) -> Tally {
+fn replayed_all(text: &[u8]) -> Tally {
     let mut t = Tally {
         same: 0,
         different: 0,
@@ -91,7 +57,7 @@ fn replayed_all(which: Module, text: &[u8]) -> Tally {
     let mut at = 0;
     while at < text.len() {
         let end = line::until(text, at, b'\n');
-        t = replayed(which, t, &text[at..end]);
+        t = replayed(t, &text[at..end]);
         at = end + 1;
     }
     t
@@ -107,7 +73,7 @@ fn report(name: &[u8], t: Tally) {
 }
 
 // A list that fills the buffer may go on: it is reported as too long, and not replayed.
-fn replay(which: Module, name: &[u8]) {
+fn replay(name: &[u8]) {
     let fd = os::open_read(name);
     if fd < 0 {
         os::fail(name);
@@ -121,20 +87,21 @@ fn replay(which: Module, name: &[u8]) {
         io::write_all(1, b": too long\n");
         return;
     }
-    report(name, replayed_all(which, &buffer[..n]));
+    report(name, replayed_all(&buffer[..n]));
 }
 
 fn main() {
-    replay(Module::M31, b"m31.txt");
-    replay(Module::CM31, b"cm31.txt");
-    replay(Module::QM31, b"qm31.txt");
-    replay(Module::Batch, b"batch.txt");
-    replay(Module::Point, b"point.txt");
-    replay(Module::SecurePoint, b"secure_point.txt");
-    replay(Module::Index, b"index.txt");
-    replay(Module::Orders, b"orders.txt");
-    replay(Module::Coset, b"coset.txt");
-    replay(Module::CanonicCoset, b"canonic_coset.txt");
-    replay(Module::CircleDomain, b"circle_domain.txt");
-    replay(Module::Transform, b"transform.txt");
+    replay(b"m31.txt");
+    replay(b"cm31.txt");
+    replay(b"qm31.txt");
+    replay(b"batch.txt");
+    replay(b"point.txt");
+    replay(b"secure_point.txt");
+    replay(b"index.txt");
+    replay(b"orders.txt");
+    replay(b"coset.txt");
+    replay(b"canonic_coset.txt");
+    replay(b"circle_domain.txt");
+    replay(b"transform.txt");
+    replay(b"damaged.txt");
 }

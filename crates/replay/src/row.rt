@@ -2,14 +2,17 @@
 use crate::line::Number;
 use crate::line::number_of;
 use crate::line::until;
+use crate::reply::Reply;
+use crate::reply::at;
 
 // The most numbers of a line.
 pub const MOST: usize = 64;
 
-// At most MOST numbers, `arguments` of them before the sign =, which stands once; bad where the line doesn't read so.
-// Until the sign has come, `arguments` is NONE.
+// The sizes of at most MOST numbers and which are below zero, `arguments` of them before the sign =, which stands once;
+// bad where the line doesn't read so. Until the sign has come, `arguments` is NONE.
 pub struct Row {
-    pub numbers: [u64; MOST],
+    pub sizes: [u64; MOST],
+    pub negative: [bool; MOST],
     pub count: usize,
     pub arguments: usize,
     pub bad: bool,
@@ -17,62 +20,53 @@ pub struct Row {
 
 const NONE: usize = MOST + 1;
 
-// The numbers that a call answered; none where there is no such call.
-pub struct Reply {
-    pub numbers: [u64; MOST],
-    pub count: usize,
-}
-
 fn bad(row: Row) -> Row {
-    let numbers = row.numbers;
-    Row {
-        numbers,
-        count: row.count,
-        arguments: row.arguments,
-        bad: true,
-    }
+    let mut worse = row;
+    worse.bad = true;
+    worse
 }
 
 // The row with one number more.
-fn with_number(row: Row, n: Number) -> Row {
-    let Number::Value(value) = n else {
-        return bad(row);
-    };
+fn with_number(row: Row, size: u64, negative: bool) -> Row {
     let at = row.count;
     if MOST <= at {
         return bad(row);
     }
-    let mut numbers = row.numbers;
-    numbers[at] = value;
-    Row {
-        numbers,
-        count: at + 1,
-        arguments: row.arguments,
-        bad: row.bad,
+    let mut more = row;
+    more.sizes[at] = size;
+    more.negative[at] = negative;
+    more.count = at + 1;
+    more
+}
+
+// The row with the sign =.
+fn with_sign(row: Row) -> Row {
+    if row.arguments != NONE {
+        return bad(row);
     }
+    let mut more = row;
+    more.arguments = row.count;
+    more
 }
 
 // The row with one word more, a number or the sign =.
 fn with_word(row: Row, word: &[u8]) -> Row {
     if check::same(word, b"=") {
-        if row.arguments != NONE {
-            return bad(row);
-        }
-        let numbers = row.numbers;
-        return Row {
-            numbers,
-            count: row.count,
-            arguments: row.count,
-            bad: row.bad,
-        };
+        return with_sign(row);
     }
-    with_number(row, number_of(word))
+    let number = number_of(word);
+    match number {
+        Number::Natural(size) => with_number(row, size, false),
+        Number::Negative(size) => with_number(row, size, true),
+        Number::Bad => bad(row),
+    }
 }
 
 // The numbers of a line from `from` on, where its name ends.
 pub fn read(line: &[u8], from: usize) -> Row {
     let mut row = Row {
-        numbers: [0; MOST],
+        sizes: [0; MOST],
+        negative: [false; MOST],
         count: 0,
         arguments: NONE,
         bad: false,
@@ -87,12 +81,15 @@ pub fn read(line: &[u8], from: usize) -> Row {
     row
 }
 
-// The number at a place, 0 past the last.
-pub fn at(numbers: [u64; MOST], i: usize) -> u64 {
+// Whether the number at a place is this one, from zero on.
+fn is_at(row: Row, i: usize, value: u64) -> bool {
     if MOST <= i {
-        return 0;
+        return false;
     }
-    numbers[i]
+    if row.negative[i] {
+        return false;
+    }
+    row.sizes[i] == value
 }
 
 // Whether the row's numbers after the sign = are the reply's.
@@ -114,11 +111,10 @@ pub fn answers(row: Row, reply: Reply) -> bool {
     if count != reply.count {
         return false;
     }
-    let recorded = row.numbers;
     let replied = reply.numbers;
     let mut i = 0;
     while i < count {
-        if at(recorded, from + i) != at(replied, i) {
+        if !is_at(row, from + i, at(replied, i)) {
             return false;
         }
         i += 1;

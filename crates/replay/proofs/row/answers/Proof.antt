@@ -4,10 +4,10 @@ use Rattle.replay.proofs.row.answers.Statement.{statement}
 use Rattle.replay.proofs.row.answers.Tie as tie
 
 abbrev Inv-loop : tie.InvT-loop
-Inv-loop from count recorded replied i₀ i = i ≤ count
+Inv-loop row from count replied i₀ i = i ≤ count
 
 abbrev μ-loop : tie.MeasureT-loop
-μ-loop from count recorded replied i₀ i = count - i
+μ-loop row from count replied i₀ i = count - i
 
 returns : tie.Need-returns Inv-loop μ-loop
 returns c = search needs
@@ -30,14 +30,14 @@ returns-5 c = search needs
 loop-holds : tie.Need-loop-holds Inv-loop μ-loop
 loop-holds c = search needs
 
-add-at : tie.Need-add-at Inv-loop μ-loop
-add-at c = search needs
+add-is-at : tie.Need-add-is-at Inv-loop μ-loop
+add-is-at c = search needs
 
 at-requires : tie.Need-at-requires Inv-loop μ-loop
 at-requires c κs = search needs
 
-at-requires-2 : tie.Need-at-requires-2 Inv-loop μ-loop
-at-requires-2 c κs = search needs
+is-at-requires : tie.Need-is-at-requires Inv-loop μ-loop
+is-at-requires c κs = search needs
 
 returns-6 : tie.Need-returns-6 Inv-loop μ-loop
 returns-6 c = search needs
@@ -67,9 +67,9 @@ answers-spec =
     sub-count
     returns-5
     loop-holds
-    add-at
+    add-is-at
     at-requires
-    at-requires-2
+    is-at-requires
     returns-6
     add-i
     loop-less
