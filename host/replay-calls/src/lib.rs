@@ -78,9 +78,10 @@ fn value(kind: char) -> &'static str {
     }
 }
 
-/// The arms of the `match` on a call's place in its table.
-fn arms(prototypes: &[&Prototype], call: impl Fn(&Prototype) -> (String, Vec<String>)) -> String {
-    let arm = |(place, prototype): (usize, &&Prototype)| {
+/// The `match` on a call's place in its table, where the first of these calls has the place `first`.
+fn arms(prototypes: &[&Prototype], first: usize, call: impl Fn(&Prototype) -> (String, Vec<String>)) -> String {
+    let arm = |(i, prototype): (usize, &&Prototype)| {
+        let place = first + i;
         let (function, arguments) = call(prototype);
         let reply = replies::function(&prototype.reply);
         let list = arguments.join(", ");

@@ -1,31 +1,61 @@
 //! The calls that take numbers alone, a file a module of the library.
 
 use crate::library::Library;
-use crate::{HEAD, arms, kind, parameters, replies_used, table, uses, value, values_used};
+use crate::{HEAD, arms, kinds, replies_used, table, uses, value, values_used};
+use taripomune_header::Prototype;
 
-/// The file of a module.
+/// The file of a module: a function for the calls of the same kinds, so that each number is read in one place.
 pub fn module(library: &Library, module: &str) -> String {
-    let calls = library.calls_of_numbers(module);
+    let mut calls = library.calls_of_numbers(module);
+    calls.sort_by_key(|call| (kinds(call).len(), kinds(call)));
     let names = [
         "crate::arguments::Form".to_string(),
         "crate::arguments::taken_by".to_string(),
         "crate::reply::Reply".to_string(),
         "crate::reply::unknown".to_string(),
+        "crate::row::MOST".to_string(),
         "crate::row::Row".to_string(),
         format!("taripomune::{module} as calls"),
     ];
     let uses = uses(names.into_iter().chain(replies_used(&calls)).chain(values_used(&calls)));
-    let arms = arms(&calls, |prototype| {
-        let numbers = parameters(prototype).enumerate();
-        let arguments = numbers.map(|(i, parameter)| format!("{}(n, {i})", value(kind(parameter)))).collect();
+    let table = table(&calls);
+    let (mut arms, mut functions, mut place) = (String::new(), String::new(), 0);
+    for group in calls.chunk_by(|one, other| kinds(one) == kinds(other)) {
+        let name = function_of(&kinds(group[0]));
+        let places = match group.len() {
+            1 => place.to_string(),
+            count => format!("{place}..={}", place + count - 1),
+        };
+        arms += &format!("        {places} => {name}(place, n),\n");
+        functions += &of_kinds(&name, group, place);
+        place += group.len();
+    }
+    format!(
+        "{HEAD}\n{uses}\n{functions}pub fn called(name: &[u8], row: Row) -> Reply {{\n{table}    \
+         let a = taken_by(name, row, Form::Words, table);\n    let n = a.numbers;\n    let place = a.place;\n    \
+         match place {{\n{arms}        _ => unknown(),\n    }}\n}}\n"
+    )
+}
+
+/// The name of the function for some kinds, as `of_4w_2d`.
+fn function_of(kinds: &str) -> String {
+    let kinds: Vec<char> = kinds.chars().collect();
+    let part = |run: &[char]| match run.len() {
+        1 => format!("_{}", run[0]),
+        count => format!("_{count}{}", run[0]),
+    };
+    let parts: String = kinds.chunk_by(|one, other| one == other).map(part).collect();
+    if parts.is_empty() { "of_none".to_string() } else { format!("of{parts}") }
+}
+
+fn of_kinds(name: &str, group: &[&Prototype], place: usize) -> String {
+    let read = |(i, kind): (usize, char)| format!("    let a{i} = {}(n, {i});\n", value(kind));
+    let numbers: String = kinds(group[0]).chars().enumerate().map(read).collect();
+    let arms = arms(group, place, |prototype| {
+        let arguments = (0..prototype.parameters.len()).map(|i| format!("a{i}")).collect();
         (format!("calls::{}", prototype.name), arguments)
     });
-    let table = table(&calls);
-    format!(
-        "{HEAD}\n{uses}\npub fn called(name: &[u8], row: Row) -> Reply {{\n{table}    \
-         let a = taken_by(name, row, Form::Words, table);\n    \
-         let n = a.numbers;\n    let place = a.place;\n{arms}}}\n"
-    )
+    format!("fn {name}(place: usize, n: [u64; MOST]) -> Reply {{\n{numbers}{arms}}}\n\n")
 }
 
 /// The file that declares the others, and tries the modules one after the other.

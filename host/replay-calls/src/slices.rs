@@ -11,7 +11,7 @@ pub fn file(library: &Library) -> String {
     let modules = calls.iter().map(|call| format!("taripomune::{}", library.module_of_call(call)));
     let uses = uses(names.chain(modules).chain(replies_used(&calls)).chain(values_used(&calls)));
     let table = table(&calls);
-    let arms = arms(&calls, |call| (format!("{}::{}", library.module_of_call(call), call.name), passed(call)));
+    let arms = arms(&calls, 0, |call| (format!("{}::{}", library.module_of_call(call), call.name), passed(call)));
     format!(
         "{HEAD}\n{uses}\npub fn arguments_of(name: &[u8], row: Row, form: Form) -> Arguments {{\n{table}    \
          taken_by(name, row, form, table)\n}}\n\n\
