@@ -25,6 +25,9 @@ pub struct Arguments {
     pub taken: usize,
 }
 
+// The most words of a slice by rule: 2^17, and some more for scratch.
+pub const LONGEST: usize = 131136;
+
 const NONE: usize = 18446744073709551615;
 
 fn starting(place: usize) -> Arguments {
@@ -141,12 +144,15 @@ fn end_of_words(row: Row, at: usize) -> usize {
     NONE
 }
 
-// A rule is a length, a seed, a place and a word.
+// A rule is a length, at most LONGEST, a seed, a place and a word.
 fn end_of_rule(row: Row, at: usize) -> usize {
     if MOST <= at {
         return NONE;
     }
     if !is_of(row, at, b'd') {
+        return NONE;
+    }
+    if LONGEST < value_at(row, at) as usize {
         return NONE;
     }
     if !is_of(row, at + 1, b'w') {

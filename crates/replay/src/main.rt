@@ -2,10 +2,13 @@
 mod arguments;
 mod calls;
 mod line;
+mod long_columns;
 mod reply;
 mod row;
 mod slices;
 mod values;
+
+use crate::arguments::Form;
 
 struct Tally {
     same: u64,
@@ -25,31 +28,37 @@ fn counted(t: Tally, same: bool) -> Tally {
     }
 }
 
-fn called(name: &[u8], row: row::Row) -> reply::Reply {
-    let reply = calls::called(name, row);
-    if reply.count != 0 {
-        return reply;
+// The call of a line whose slices have a form.
+fn called(form: Form, name: &[u8], row: row::Row) -> reply::Reply {
+    match form {
+        Form::Words => {
+            let reply = calls::called(name, row);
+            if reply.count != 0 {
+                return reply;
+            }
+            slices::called(name, row)
+        }
+        Form::Rule => long_columns::called(name, row),
     }
-    slices::called(name, row)
 }
 
 // Whether the line's call answers as the line says.
-fn as_recorded(line: &[u8]) -> bool {
+fn as_recorded(form: Form, line: &[u8]) -> bool {
     let end = line::until(line, 0, b' ');
     let row = row::read(line, end);
-    row::answers(row, called(&line[..end], row))
+    row::answers(row, called(form, &line[..end], row))
 }
 
 // A comment says nothing; any other line is an answer.
-fn replayed(t: Tally, line: &[u8]) -> Tally {
+fn replayed(form: Form, t: Tally, line: &[u8]) -> Tally {
     if line::is_comment(line) {
         return t;
     }
-    counted(t, as_recorded(line))
+    counted(t, as_recorded(form, line))
 }
 
 // The lines of a text.
-fn replayed_all(text: &[u8]) -> Tally {
+fn replayed_all(form: Form, text: &[u8]) -> Tally {
     let mut t = Tally {
         same: 0,
         different: 0,
@@ -57,7 +66,7 @@ fn replayed_all(text: &[u8]) -> Tally {
     let mut at = 0;
     while at < text.len() {
         let end = line::until(text, at, b'\n');
-        t = replayed(t, &text[at..end]);
+        t = replayed(form, t, &text[at..end]);
         at = end + 1;
     }
     t
@@ -73,7 +82,7 @@ fn report(name: &[u8], t: Tally) {
 }
 
 // A list that fills the buffer may go on: it is reported as too long, and not replayed.
-fn replay(name: &[u8]) {
+fn replay(form: Form, name: &[u8]) {
     let fd = os::open_read(name);
     if fd < 0 {
         os::fail(name);
@@ -87,21 +96,22 @@ fn replay(name: &[u8]) {
         io::write_all(1, b": too long\n");
         return;
     }
-    report(name, replayed_all(&buffer[..n]));
+    report(name, replayed_all(form, &buffer[..n]));
 }
 
 fn main() {
-    replay(b"m31.txt");
-    replay(b"cm31.txt");
-    replay(b"qm31.txt");
-    replay(b"batch.txt");
-    replay(b"point.txt");
-    replay(b"secure_point.txt");
-    replay(b"index.txt");
-    replay(b"orders.txt");
-    replay(b"coset.txt");
-    replay(b"canonic_coset.txt");
-    replay(b"circle_domain.txt");
-    replay(b"transform.txt");
-    replay(b"damaged.txt");
+    replay(Form::Words, b"m31.txt");
+    replay(Form::Words, b"cm31.txt");
+    replay(Form::Words, b"qm31.txt");
+    replay(Form::Words, b"batch.txt");
+    replay(Form::Words, b"point.txt");
+    replay(Form::Words, b"secure_point.txt");
+    replay(Form::Words, b"index.txt");
+    replay(Form::Words, b"orders.txt");
+    replay(Form::Words, b"coset.txt");
+    replay(Form::Words, b"canonic_coset.txt");
+    replay(Form::Words, b"circle_domain.txt");
+    replay(Form::Words, b"transform.txt");
+    replay(Form::Rule, b"long_columns.txt");
+    replay(Form::Words, b"damaged.txt");
 }

@@ -23,6 +23,7 @@ mod orders_kinds;
 mod point;
 mod qm31;
 pub mod record;
+pub mod record_long;
 mod secure_point;
 mod transform;
 mod transform_kinds;
@@ -49,6 +50,9 @@ pub const MODULES: &[(&str, &[Entry], usize)] = &[
     ("circle_domain", circle_domain::ENTRIES, 6_000),
     ("transform", transform::ENTRIES, 16_000),
 ];
+
+/// The entries whose answers on long slices are recorded too.
+pub const ON_LONG_SLICES: &[&[Entry]] = &[batch::ENTRIES, orders::ENTRIES, transform::LONG_ENTRIES];
 
 /// Every function of the header has one entry.
 pub fn check_names() -> Result<(), String> {

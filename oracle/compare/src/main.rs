@@ -3,7 +3,7 @@
 use compare::check::{check, Tally};
 use compare::long_columns::{check_long_columns, DIRECTIONS};
 use compare::walk::{check_walk, WALKS};
-use compare::{check_names, function, record, MODULES};
+use compare::{check_names, function, record, record_long, MODULES, ON_LONG_SLICES};
 use std::fs;
 use std::path::{Path, PathBuf};
 use std::process::ExitCode;
@@ -85,11 +85,19 @@ fn record_all(folder: &Path, seed: u64) -> Result<(), String> {
         for (entry, function) in entries.iter().zip(functions) {
             text += &record::lines(entry, function, seed, *share)?;
         }
-        let file = folder.join(module).with_extension("txt");
-        if text.len() >= MOST_BYTES {
-            return Err(format!("{} would be {} bytes, too many", file.display(), text.len()));
-        }
-        fs::write(&file, text).map_err(|error| format!("{}: {error}", file.display()))?;
+        write(folder, module, &text)?;
     }
-    Ok(())
+    let mut text = record_long::HEADER.to_string();
+    for entry in ON_LONG_SLICES.iter().flat_map(|entries| *entries) {
+        text += &record_long::lines(entry, function(entry)?)?;
+    }
+    write(folder, record_long::NAME, &text)
+}
+
+fn write(folder: &Path, name: &str, text: &str) -> Result<(), String> {
+    let file = folder.join(name).with_extension("txt");
+    if text.len() >= MOST_BYTES {
+        return Err(format!("{} would be {} bytes, too many", file.display(), text.len()));
+    }
+    fs::write(&file, text).map_err(|error| format!("{}: {error}", file.display()))
 }

@@ -14,6 +14,12 @@ use stwo::core::utils::bit_reverse_index;
 
 pub const ENTRIES: &[Entry] = &[transform("evaluate", evaluated), transform("interpolate", interpolated)];
 
+/// The same beside the fast Rust alone, for columns too long for the sum.
+pub const LONG_ENTRIES: &[Entry] = &[
+    transform("evaluate", |a| fast(a, Factors::evaluate)),
+    transform("interpolate", |a| fast(a, Factors::interpolate)),
+];
+
 /// The free values are the first words of scratch, as many as the column has.
 const fn transform(name: &'static str, rust: fn(&mut Args) -> Vec<u64>) -> Entry {
     let scratch = |numbers: &[i128]| {
@@ -37,6 +43,11 @@ fn interpolated(a: &mut Args) -> Vec<u64> {
     let coefficients = Factors::new(log_size).interpolate(&values);
     assert_eq!(sums(log_size, &coefficients), values, "the sum doesn't give the values back");
     left(&coefficients, &scratch)
+}
+
+fn fast(a: &mut Args, rust: fn(&Factors, &[M31]) -> Vec<M31>) -> Vec<u64> {
+    let (log_size, column, scratch) = (a.take(), a.column(), a.column());
+    left(&rust(&Factors::new(log_size), &column), &scratch)
 }
 
 /// What a call leaves in the column and in scratch.

@@ -5,10 +5,10 @@ use Rattle.replay.proofs.replayed_all.Statement.{statement}
 use Rattle.replay.proofs.replayed_all.Tie as tie
 
 abbrev Inv-loop : tie.InvT-loop
-Inv-loop text t₀ at₀ t at = Unit {0}
+Inv-loop form text t₀ at₀ t at = Unit {0}
 
 abbrev μ-loop : tie.MeasureT-loop
-μ-loop text t₀ at₀ t at = length text - at
+μ-loop form text t₀ at₀ t at = length text - at
 
 loop-holds : tie.Need-loop-holds Inv-loop μ-loop
 loop-holds c = search needs
