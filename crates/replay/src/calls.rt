@@ -11,6 +11,7 @@ mod point;
 mod qm31;
 mod replies;
 mod secure_point;
+mod version;
 
 use crate::reply::Reply;
 use crate::reply::unknown;
@@ -57,6 +58,10 @@ pub fn called(name: &[u8], row: Row) -> Reply {
     let secure_point = secure_point::called(name, row);
     if secure_point.count != 0 {
         return secure_point;
+    }
+    let version = version::called(name, row);
+    if version.count != 0 {
+        return version;
     }
     unknown()
 }

@@ -100,6 +100,7 @@ fn replay(form: Form, name: &[u8]) {
 }
 
 fn main() {
+    replay(Form::Words, b"version.txt");
     replay(Form::Words, b"m31.txt");
     replay(Form::Words, b"cm31.txt");
     replay(Form::Words, b"qm31.txt");
