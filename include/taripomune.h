@@ -7,11 +7,11 @@
  * that applies is made. docs/CALLS.md has the definition that each call is proved to meet.
  *
  * A slice is a pointer to uint32_t and then its length in words. Where the length is 0 the pointer may be NULL or any
- * other: it isn't followed. Else it must be aligned as a uint32_t is and good for so many words. The slices of one
- * call must not overlap, not even where one is only read: a call can't see that they do, and its promise doesn't hold
- * then.
+ * other: it isn't followed. Else it must be aligned as a uint32_t is, and so many words there must be readable, and
+ * writable where they aren't const. The slices of one call must not overlap, not even where one is only read: a call
+ * can't see that they do, and its promise doesn't hold then.
  *
- * A 128-bit number is its high word and then its low word. */
+ * A number of 128 bits is passed as two of 64 bits, high and then low. */
 #ifndef TARIPOMUNE_H
 #define TARIPOMUNE_H
 
@@ -28,7 +28,7 @@ extern "C" {
 #define TARI_ACCEPTED 0
 /* A log size is outside its range. */
 #define TARI_REFUSED_LOG_SIZE 6
-/* A point index is above 2^31, or a position is outside its coset. */
+/* A point index is above 2^31; in coset_index_to_circle_domain_index, alone: the position is outside the coset. */
 #define TARI_REFUSED_INDEX 4
 /* A scalar or an offset is outside its range. */
 #define TARI_REFUSED_SCALAR 11
@@ -44,7 +44,7 @@ extern "C" {
 #define TARI_REFUSED_INVERSE 3
 /* An odd index has no half. */
 #define TARI_REFUSED_HALVING 5
-/* More doublings or parts than the log size allows. In split this is checked before the length. */
+/* More doublings or parts than the log size allows. In split the length is checked last, after this. */
 #define TARI_REFUSED_DOUBLINGS 7
 /* The point isn't on the circle. */
 #define TARI_REFUSED_CIRCLE 10
@@ -87,7 +87,7 @@ typedef struct {
 
 /* ---- The version ----
  *
- * Raised with every change of this file or of an answer. */
+ * Raised with every change of a declaration of the header or of an answer. */
 
 #define TARI_VERSION 1
 
@@ -102,7 +102,7 @@ tari_u32_reply tari_version(void);
 tari_m31_reply tari_m31_partial_reduce(uint32_t val);
 /* val modulo P, for val below P^2. Refuses 2. */
 tari_m31_reply tari_m31_reduce(uint64_t val);
-/* The element of the word arg, which must be below P. Refuses 1. */
+/* The element of the word arg, which must be below P: it is checked here, despite the name. Refuses 1. */
 tari_m31_reply tari_m31_from_u32_unchecked(uint32_t arg);
 /* value modulo P, for value below P^2. Refuses 2. */
 tari_m31_reply tari_m31_from_usize(uint64_t value);
@@ -149,7 +149,7 @@ tari_cm31_reply tari_cm31_zero(void);
 tari_cm31_reply tari_cm31_one(void);
 /* 1 where a is 0, else 0. Refuses 1. */
 tari_bool_reply tari_cm31_is_zero(uint32_t a0, uint32_t a1);
-/* The element of the words a and b, which must be below P. Refuses 1. */
+/* The element of the words a and b, which must be below P: they are checked here, despite the name. Refuses 1. */
 tari_cm31_reply tari_cm31_from_u32_unchecked(uint32_t a, uint32_t b);
 /* a + bi, of a and b in M31. Refuses 1. */
 tari_cm31_reply tari_cm31_from_m31(uint32_t a, uint32_t b);
@@ -167,7 +167,7 @@ tari_cm31_reply tari_cm31_mul(uint32_t a0, uint32_t a1, uint32_t b0, uint32_t b1
 tari_cm31_reply tari_cm31_square(uint32_t a0, uint32_t a1);
 /* a to the power exp_high 2^64 + exp_low; 0 to the power 0 is 1. Refuses 1. */
 tari_cm31_reply tari_cm31_pow(uint32_t a0, uint32_t a1, uint64_t exp_high, uint64_t exp_low);
-/* a to the power 2147483645, which is no inverse in CM31. Refuses 1. */
+/* a to the power 2147483645, which in CM31 isn't the inverse. Refuses 1. */
 tari_cm31_reply tari_cm31_pow2147483645(uint32_t a0, uint32_t a1);
 /* The inverse of a; 0 has none. Refuses 1, 3. */
 tari_cm31_reply tari_cm31_inverse(uint32_t a0, uint32_t a1);
@@ -204,13 +204,13 @@ tari_qm31_reply tari_qm31_zero(void);
 tari_qm31_reply tari_qm31_one(void);
 /* 1 where a is 0, else 0. Refuses 1. */
 tari_bool_reply tari_qm31_is_zero(uint32_t a0, uint32_t a1, uint32_t a2, uint32_t a3);
-/* The element of four words, which must be below P. Refuses 1. */
+/* The element of four words, which must be below P: they are checked here, despite the name. Refuses 1. */
 tari_qm31_reply tari_qm31_from_u32_unchecked(uint32_t a, uint32_t b, uint32_t c, uint32_t d);
 /* (a + bi) + (c + di)u, of a to d in M31. Refuses 1. */
 tari_qm31_reply tari_qm31_from_m31(uint32_t a, uint32_t b, uint32_t c, uint32_t d);
-/* (a + bi) + (c + di)u, of an array of four elements of M31. Refuses 1. */
+/* (a + bi) + (c + di)u, of a to d in M31: stwo's function of an array of four. Refuses 1. */
 tari_qm31_reply tari_qm31_from_m31_array(uint32_t a, uint32_t b, uint32_t c, uint32_t d);
-/* The four words of a as an array of M31. Refuses 1. */
+/* a0 to a3 as they are: stwo's function that gives an array of four. Refuses 1. */
 tari_qm31_reply tari_qm31_to_m31_array(uint32_t a0, uint32_t a1, uint32_t a2, uint32_t a3);
 /* x as an element of QM31, the other words 0. Refuses 1. */
 tari_qm31_reply tari_qm31_from_base(uint32_t x);
@@ -241,7 +241,7 @@ tari_qm31_reply tari_qm31_mul_cm31(uint32_t a0, uint32_t a1, uint32_t a2, uint32
 tari_qm31_reply tari_qm31_square(uint32_t a0, uint32_t a1, uint32_t a2, uint32_t a3);
 /* a to the power exp_high 2^64 + exp_low; 0 to the power 0 is 1. Refuses 1. */
 tari_qm31_reply tari_qm31_pow(uint32_t a0, uint32_t a1, uint32_t a2, uint32_t a3, uint64_t exp_high, uint64_t exp_low);
-/* a to the power 2147483645, which is no inverse in QM31. Refuses 1. */
+/* a to the power 2147483645, which in QM31 isn't the inverse. Refuses 1. */
 tari_qm31_reply tari_qm31_pow2147483645(uint32_t a0, uint32_t a1, uint32_t a2, uint32_t a3);
 /* The inverse of a; 0 has none. Refuses 1, 3. */
 tari_qm31_reply tari_qm31_inverse(uint32_t a0, uint32_t a1, uint32_t a2, uint32_t a3);
@@ -274,24 +274,24 @@ tari_qm31_reply tari_m31_div_qm31(uint32_t a, uint32_t b0, uint32_t b1, uint32_t
  * A column and its destination are 1, 2 or 4 words an element; chunk sizes count elements. Words of a longer
  * destination stay. An empty column is accepted and writes nothing. */
 
-/* Element k of dst becomes the inverse of element k of column. Despite its name it takes two slices: with one slice
- * lent as both it answers number 0 and leaves wrong words. Refuses 8, 1, 3. */
+/* Element k of dst becomes the inverse of element k of column. The two slices must not overlap, despite the name:
+ * with one slice lent as both it answers number 0 and leaves wrong words. Refuses 8, 1, 3. */
 tari_write_reply tari_m31_batch_inverse_in_place(
     const uint32_t *column, uint64_t column_len, uint32_t *dst, uint64_t dst_len);
 /* Element k of dst becomes the inverse of element k of column, chunk_size elements at a time. The two slices must
  * not overlap. Refuses 8, 9, 1, 3. */
 tari_write_reply tari_m31_batch_inverse_chunked(
     const uint32_t *column, uint64_t column_len, uint32_t *dst, uint64_t dst_len, uint64_t chunk_size);
-/* Element k of dst becomes the inverse of element k of column. Despite its name it takes two slices: with one slice
- * lent as both it answers number 0 and leaves wrong words. Refuses 8, 1, 3. */
+/* Element k of dst becomes the inverse of element k of column. The two slices must not overlap, despite the name:
+ * with one slice lent as both it answers number 0 and leaves wrong words. Refuses 8, 1, 3. */
 tari_write_reply tari_cm31_batch_inverse_in_place(
     const uint32_t *column, uint64_t column_len, uint32_t *dst, uint64_t dst_len);
 /* Element k of dst becomes the inverse of element k of column, chunk_size elements at a time. The two slices must
  * not overlap. Refuses 8, 9, 1, 3. */
 tari_write_reply tari_cm31_batch_inverse_chunked(
     const uint32_t *column, uint64_t column_len, uint32_t *dst, uint64_t dst_len, uint64_t chunk_size);
-/* Element k of dst becomes the inverse of element k of column. Despite its name it takes two slices: with one slice
- * lent as both it answers number 0 and leaves wrong words. Refuses 8, 1, 3. */
+/* Element k of dst becomes the inverse of element k of column. The two slices must not overlap, despite the name:
+ * with one slice lent as both it answers number 0 and leaves wrong words. Refuses 8, 1, 3. */
 tari_write_reply tari_qm31_batch_inverse_in_place(
     const uint32_t *column, uint64_t column_len, uint32_t *dst, uint64_t dst_len);
 /* Element k of dst becomes the inverse of element k of column, chunk_size elements at a time. The two slices must
@@ -319,7 +319,7 @@ tari_m31_reply tari_point_double_x(uint32_t x);
 tari_point_reply tari_point_mul(uint32_t x, uint32_t y, uint64_t scalar_high, uint64_t scalar_low);
 /* (x, y), or for a negative off (x, -y), added |off| times to zero; not for off = -2^63. Refuses 11, 1. */
 tari_point_reply tari_point_mul_signed(uint32_t x, uint32_t y, int64_t off);
-/* (x, y) doubled n times; it makes all n doublings, up to 2^32 - 1. Refuses 1. */
+/* (x, y) doubled n times. All n doublings are made, up to 2^32 - 1: the time grows with n. Refuses 1. */
 tari_point_reply tari_point_repeated_double(uint32_t x, uint32_t y, uint32_t n);
 /* (x, -y). Refuses 1. */
 tari_point_reply tari_point_conjugate(uint32_t x, uint32_t y);
@@ -362,7 +362,7 @@ tari_secure_point_reply tari_secure_point_mul(
 tari_secure_point_reply tari_secure_point_mul_signed(
     uint32_t x0, uint32_t x1, uint32_t x2, uint32_t x3, uint32_t y0, uint32_t y1, uint32_t y2, uint32_t y3,
     int64_t off);
-/* (x, y) doubled n times; it makes all n doublings, up to 2^32 - 1. Refuses 1. */
+/* (x, y) doubled n times. All n doublings are made, up to 2^32 - 1: the time grows with n. Refuses 1. */
 tari_secure_point_reply tari_secure_point_repeated_double(
     uint32_t x0, uint32_t x1, uint32_t x2, uint32_t x3, uint32_t y0, uint32_t y1, uint32_t y2, uint32_t y3, uint32_t n);
 /* (x, -y). Refuses 1. */
@@ -374,8 +374,8 @@ tari_secure_point_reply tari_secure_point_antipode(
 /* The complex conjugates of x and y. Refuses 1. */
 tari_secure_point_reply tari_secure_point_complex_conjugate(
     uint32_t x0, uint32_t x1, uint32_t x2, uint32_t x3, uint32_t y0, uint32_t y1, uint32_t y2, uint32_t y3);
-/* The generator of the circle over QM31, stwo's SECURE_FIELD_CIRCLE_GEN, added index_high 2^64 + index_low times to
- * zero, less than P^4 - 1 times. Refuses 11. */
+/* The point x = (1, 0, 478637715, 513582971), y = (992285211, 649143431, 740191619, 1186584352), which is stwo's
+ * SECURE_FIELD_CIRCLE_GEN, added index_high 2^64 + index_low times to zero, less than P^4 - 1 times. Refuses 11. */
 tari_secure_point_reply tari_secure_point_get_point(uint64_t index_high, uint64_t index_low);
 
 /* ---- Point indices ----
@@ -400,7 +400,7 @@ tari_index_reply tari_index_add(uint64_t a, uint64_t b);
 tari_index_reply tari_index_sub(uint64_t a, uint64_t b);
 /* -index modulo 2^31. Refuses 4. */
 tari_index_reply tari_index_neg(uint64_t index);
-/* index times count, modulo 2^64 and then modulo 2^31, for any count. Refuses 4. */
+/* index times count, modulo 2^31, for any count. Refuses 4. */
 tari_index_reply tari_index_mul(uint64_t index, uint64_t count);
 
 /* ---- Column orders ----
@@ -411,17 +411,18 @@ tari_index_reply tari_index_mul(uint64_t index, uint64_t count);
 tari_u64_reply tari_bit_reverse_index(uint64_t i, uint32_t log_size);
 /* Word k of v becomes the word at the reverse of k, for 2^n words. Refuses 8. */
 tari_write_reply tari_bit_reverse(uint32_t *v, uint64_t v_len);
-/* The position, in the bit-reversed order of the domain of log size eval_log_size, that lies offset steps of the
- * domain of log size domain_log_size from position i; on the conjugates the steps run the other way. offset is
- * within 2^31 on either side. Refuses 6, 11. */
+/* The position of the element of the canonic circle domain of log size eval_log_size whose index is that of position
+ * i's element plus offset times 2^(31 - domain_log_size), modulo 2^31. Both positions are in bit-reversed order, and
+ * of i only the eval_log_size low bits count. offset is from -2^31 to 2^31. Refuses 6, 11. */
 tari_u64_reply tari_offset_bit_reversed_circle_domain_index(
     uint64_t i, uint32_t domain_log_size, uint32_t eval_log_size, int64_t offset);
-/* The position, in the bit-reversed order of the domain of log size eval_log_size, that lies one step of the domain
- * of log size domain_log_size before position i; on the conjugates after it. Refuses 6. */
+/* The position of the element of the canonic circle domain of log size eval_log_size whose index is that of position
+ * i's element minus 2^(31 - domain_log_size), modulo 2^31. Both positions are in bit-reversed order, and of i only
+ * the eval_log_size low bits count. Refuses 6. */
 tari_u64_reply tari_previous_bit_reversed_circle_domain_index(
     uint64_t i, uint32_t domain_log_size, uint32_t eval_log_size);
-/* Where element coset_index of a coset of 2^log_domain_size points stands in the circle domain: even k at k / 2, odd
- * k at (2^(n + 1) - k) / 2 rounded down. Refuses 6, 4. */
+/* Where element k = coset_index of a coset of 2^n points, n = log_domain_size, stands in the circle domain: even k
+ * at k / 2, odd k at (2^(n + 1) - k) / 2 rounded down. Refuses 6, 4. */
 tari_u64_reply tari_coset_index_to_circle_domain_index(uint64_t coset_index, uint32_t log_domain_size);
 /* Word k of v becomes the word at the reverse of the place that the order map gives k, for 2^n words. Refuses 8. */
 tari_write_reply tari_bit_reverse_coset_to_circle_domain_order(uint32_t *v, uint64_t v_len);
@@ -443,9 +444,9 @@ tari_write_reply tari_circle_domain_order_to_coset_order(
 tari_coset_reply tari_coset_new(uint64_t initial_index, uint32_t log_size);
 /* The coset from index 0 on: the subgroup of 2^log_size points. Refuses 6. */
 tari_coset_reply tari_coset_subgroup(uint32_t log_size);
-/* The coset from subgroup_gen(log_size + 1) on, log sizes up to 30. Refuses 6. */
+/* The coset from subgroup_gen(log_size + 1) on, with step subgroup_gen(log_size), of log size 0 to 30. Refuses 6. */
 tari_coset_reply tari_coset_odds(uint32_t log_size);
-/* The coset from subgroup_gen(log_size + 2) on, log sizes up to 29. Refuses 6. */
+/* The coset from subgroup_gen(log_size + 2) on, with step subgroup_gen(log_size), of log size 0 to 29. Refuses 6. */
 tari_coset_reply tari_coset_half_odds(uint32_t log_size);
 /* 2^log_size. Refuses 6, 4, 1. */
 tari_u64_reply tari_coset_size(
@@ -459,16 +460,16 @@ tari_u32_reply tari_coset_log_size(
 tari_coset_iterator_reply tari_coset_iter_indices(
     uint64_t initial_index, uint32_t initial_x, uint32_t initial_y, uint64_t step_index, uint32_t step_x,
     uint32_t step_y, uint32_t log_size);
-/* Both indices and both points doubled, the log size one less. Refuses 6, 4, 1, 7. */
+/* Both indices doubled modulo 2^31, both points doubled, the log size one less. Refuses 6, 4, 1, 7. */
 tari_coset_reply tari_coset_double(
     uint64_t initial_index, uint32_t initial_x, uint32_t initial_y, uint64_t step_index, uint32_t step_x,
     uint32_t step_y, uint32_t log_size);
-/* Doubled n_doubles times, no more than the log size. Refuses 6, 4, 1, 7. */
+/* The coset doubled n_doubles times, no more than its log size. Refuses 6, 4, 1, 7. */
 tari_coset_reply tari_coset_repeated_double(
     uint64_t initial_index, uint32_t initial_x, uint32_t initial_y, uint64_t step_index, uint32_t step_x,
     uint32_t step_y, uint32_t log_size, uint32_t n_doubles);
-/* 1 where the first coset equals the other, doubled as often as their log sizes differ, in every field, else 0.
- * Refuses 6, 4, 1. */
+/* 1 where the first coset equals the other, doubled as often as their log sizes differ, in every field, else 0. A
+ * step index 2^31, as of log size 0, doesn't equal the 0 that doubling gives. Refuses 6, 4, 1. */
 tari_bool_reply tari_coset_is_doubling_of(
     uint64_t initial_index, uint32_t initial_x, uint32_t initial_y, uint64_t step_index, uint32_t step_x,
     uint32_t step_y, uint32_t log_size, uint64_t other_initial_index, uint32_t other_initial_x,
@@ -482,11 +483,11 @@ tari_point_reply tari_coset_initial(
 tari_index_reply tari_coset_index_at(
     uint64_t initial_index, uint32_t initial_x, uint32_t initial_y, uint64_t step_index, uint32_t step_x,
     uint32_t step_y, uint32_t log_size, uint64_t i);
-/* The point of the index initial_index + i times step_index, modulo 2^31. Refuses 6, 4, 1. */
+/* The point of the index initial_index + i times step_index, modulo 2^31, for any i. Refuses 6, 4, 1. */
 tari_point_reply tari_coset_at(
     uint64_t initial_index, uint32_t initial_x, uint32_t initial_y, uint64_t step_index, uint32_t step_x,
     uint32_t step_y, uint32_t log_size, uint64_t i);
-/* The coset moved by shift_size: its initial index and that index's point; the step stays. Refuses 6, 4, 1. */
+/* The coset moved by the index shift_size: its initial index and the point of it. The step stays. Refuses 6, 4, 1. */
 tari_coset_reply tari_coset_shift(
     uint64_t initial_index, uint32_t initial_x, uint32_t initial_y, uint64_t step_index, uint32_t step_x,
     uint32_t step_y, uint32_t log_size, uint64_t shift_size);
@@ -494,7 +495,7 @@ tari_coset_reply tari_coset_shift(
 tari_coset_reply tari_coset_conjugate(
     uint64_t initial_index, uint32_t initial_x, uint32_t initial_y, uint64_t step_index, uint32_t step_x,
     uint32_t step_y, uint32_t log_size);
-/* The next index and the iterator after it, or done. Refuses 4. */
+/* The next index and the iterator after it, or done. The indices are checked also where none remain. Refuses 4. */
 tari_coset_step_reply tari_coset_iterator_next(uint64_t cur, uint64_t step, uint64_t remaining);
 
 /* ---- Canonic cosets ----
@@ -541,7 +542,7 @@ tari_point_reply tari_canonic_coset_step(
 tari_index_reply tari_canonic_coset_index_at(
     uint64_t initial_index, uint32_t initial_x, uint32_t initial_y, uint64_t step_index, uint32_t step_x,
     uint32_t step_y, uint32_t log_size, uint64_t i);
-/* The point of the index initial_index + i times step_index, modulo 2^31. Refuses 6, 4, 1. */
+/* The point of the index initial_index + i times step_index, modulo 2^31, for any i. Refuses 6, 4, 1. */
 tari_point_reply tari_canonic_coset_at(
     uint64_t initial_index, uint32_t initial_x, uint32_t initial_y, uint64_t step_index, uint32_t step_x,
     uint32_t step_y, uint32_t log_size, uint64_t i);
@@ -567,7 +568,7 @@ tari_u64_reply tari_circle_domain_size(
 tari_u32_reply tari_circle_domain_log_size(
     uint64_t initial_index, uint32_t initial_x, uint32_t initial_y, uint64_t step_index, uint32_t step_x,
     uint32_t step_y, uint32_t log_size);
-/* The point of the domain's index at i. Refuses 6, 4, 1. */
+/* The point of the domain's index at i, for any i. Refuses 6, 4, 1. */
 tari_point_reply tari_circle_domain_at(
     uint64_t initial_index, uint32_t initial_x, uint32_t initial_y, uint64_t step_index, uint32_t step_x,
     uint32_t step_y, uint32_t log_size, uint64_t i);
@@ -580,16 +581,18 @@ tari_index_reply tari_circle_domain_index_at(
 tari_bool_reply tari_circle_domain_is_canonic(
     uint64_t initial_index, uint32_t initial_x, uint32_t initial_y, uint64_t step_index, uint32_t step_x,
     uint32_t step_y, uint32_t log_size);
-/* Answers with the domain of the first of 2^log_parts parts, and writes the shifts that give them, i times
- * step_index modulo 2^31, one word each. Refuses 6, 4, 1, 7, 8. */
+/* Answers with the domain of coset_new(initial_index, log_size - log_parts), the first of 2^log_parts parts. Word i
+ * of shifts becomes i times step_index modulo 2^31, for i below 2^log_parts: the shift that gives part i. Words past
+ * them stay. Refuses 6, 4, 1, 7, 8. */
 tari_coset_reply tari_circle_domain_split(
     uint64_t initial_index, uint32_t initial_x, uint32_t initial_y, uint64_t step_index, uint32_t step_x,
     uint32_t step_y, uint32_t log_size, uint32_t log_parts, uint32_t *shifts, uint64_t shifts_len);
-/* The domain of the half coset moved by shift. Refuses 6, 4, 1. */
+/* The domain of the half coset moved by the index shift. Refuses 6, 4, 1. */
 tari_coset_reply tari_circle_domain_shift(
     uint64_t initial_index, uint32_t initial_x, uint32_t initial_y, uint64_t step_index, uint32_t step_x,
     uint32_t step_y, uint32_t log_size, uint64_t shift);
-/* The next index and the iterator after it, first of the half coset's, then of the conjugate's, or done. Refuses 4. */
+/* The next index and the iterator after it, first of the half coset's, then of the conjugate's, or done. All four
+ * indices are checked, also where none remain. Refuses 4. */
 tari_circle_domain_step_reply tari_circle_domain_index_iterator_next(
     uint64_t first_cur, uint64_t first_step, uint64_t first_remaining, uint64_t second_cur, uint64_t second_step,
     uint64_t second_remaining);

@@ -9,6 +9,7 @@ use Rattle.algebra.specs.Field.{Field}
 use Rattle.algebra.specs.Prime.{Prime, prime-by-trial}
 use Rattle.algebra.specs.PrimeField as PF
 
+-- 2^31 - 1
 abbrev pub P : ℕ
 P = 2147483647
 

@@ -10,6 +10,7 @@ module _ (O : Ops) where
   open Ops O using (El, one as 𝟙, mul as _⊗_)
 
   infixl 70 _⊗_
+  -- x times itself n times, 1 for n = 0
   unfoldable pub pow : El → ℕ → El
   pow x zero = 𝟙
   pow x (suc n) = x ⊗ pow x n

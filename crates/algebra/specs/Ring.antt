@@ -10,6 +10,7 @@ pub record Ops : Type 1 where
   pub mul : El → El → El
   pub neg : El → El
 
+-- a + (- b)
 abbrev pub sub : (O : Ops) → O .El → O .El → O .El
 sub O a b = O .add a (O .neg b)
 

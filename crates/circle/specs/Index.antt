@@ -14,6 +14,7 @@ use Rattle.circle.specs.declared.index.CirclePointIndex.{CirclePointInde
 use Rattle.circle.specs.declared.index.CirclePointIndexAnswer.{CirclePointIndexAnswer}
 use Rattle.circle.specs.declared.index.CirclePointIndexAnswer.the-variants.{Value, Refused}
 
+-- the point index of a number
 abbrev pub ofIndex : ℕ → CirclePointIndex
 ofIndex k = record { 0 = k }
 
@@ -21,6 +22,7 @@ ofIndex k = record { 0 = k }
 abbrev pub IsIndex : CirclePointIndex → Type 0
 IsIndex k = k .0 ≤ 2 ^ 31
 
+-- whether a point index lies in 0 to 2^31
 abbrev pub isIndex : CirclePointIndex → Bool
 isIndex k = leb (k .0) (2 ^ 31)
 
@@ -63,6 +65,6 @@ subAnswer j k = checked (inRange j ++ inRange k) Refused (Value (ofIndex ((j .0 
 unfoldable pub negAnswer : CirclePointIndex → CirclePointIndexAnswer
 negAnswer k = checked (inRange k) Refused (Value (ofIndex (negIndex (k .0))))
 
--- modulo 2^64, then reduced
+-- modulo 2^64, then modulo 2^31
 unfoldable pub mulAnswer : CirclePointIndex → ℕ → CirclePointIndexAnswer
 mulAnswer k n = checked (inRange k) Refused (Value (ofIndex ((k .0 * n) % 2 ^ 64 % 2 ^ 31)))

@@ -28,6 +28,7 @@ use Rattle.circle.specs.declared.point.CirclePointAnswer.the-variants.{V
 abbrev pub pointOf : CirclePoint → ℕ × ℕ
 pointOf p = (p .x .0, p .y .0)
 
+-- the point of the words x and y
 abbrev pub ofPoint : ℕ × ℕ → CirclePoint
 ofPoint p = record { x = ofWord (p .0); y = ofWord (p .1) }
 
@@ -35,6 +36,7 @@ ofPoint p = record { x = ofWord (p .0); y = ofWord (p .1) }
 abbrev pub Reduced : CirclePoint → Type 0
 Reduced p = (p .x .0 < P) × (p .y .0 < P)
 
+-- whether both words are below P
 abbrev pub reduced : CirclePoint → Bool
 reduced p = ltb (p .x .0) P && ltb (p .y .0) P
 
@@ -85,10 +87,11 @@ antipodeAnswer p = checked (words p) Refused (Value (ofPoint (antipode words31 (
 unfoldable pub complexConjugateAnswer : CirclePoint → CirclePointAnswer
 complexConjugateAnswer p = checked (words p) Refused (Value p)
 
+-- whether a point is zero, (1, 0)
 abbrev pub isZero : ℕ × ℕ → Bool
 isZero p = eqb (p .0) (zeroPoint words31 .0) && eqb (p .1) (zeroPoint words31 .1)
 
--- the least count of doublings that reach zero; 31 where fewer don't (`LogOrder`: on the circle 31 reach it)
+-- the least count of doublings that reach zero; 31 where fewer don't (`LogOrder.antt` proves that on the circle 31 reach it)
 unfoldable pub logOrder : ℕ × ℕ → ℕ
 logOrder p = first (λ n. isZero (iterate n (double words31) p)) 31
 

@@ -27,6 +27,7 @@ use Rattle.circle.specs.declared.secure_point.SecureCirclePointAnswer.th
 abbrev pub pointOf : SecureCirclePoint → quarticWords .El × quarticWords .El
 pointOf p = (pairsOf (p .x), pairsOf (p .y))
 
+-- the point of the words of x and of y, by pairs
 abbrev pub ofPoint : quarticWords .El × quarticWords .El → SecureCirclePoint
 ofPoint p = record { x = ofPairs (p .0); y = ofPairs (p .1) }
 
@@ -34,6 +35,7 @@ ofPoint p = record { x = ofPairs (p .0); y = ofPairs (p .1) }
 abbrev pub Reduced : SecureCirclePoint → Type 0
 Reduced p = Q.Reduced (p .x) × Q.Reduced (p .y)
 
+-- whether all words are below P
 abbrev pub reduced : SecureCirclePoint → Bool
 reduced p = Q.reduced (p .x) && Q.reduced (p .y)
 

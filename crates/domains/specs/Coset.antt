@@ -88,6 +88,7 @@ unfoldable pub doubleAnswer : Coset → CosetAnswer
 unfolding repeatedDoubleAnswer
 doubleAnswer c = repeatedDoubleAnswer c 1
 
+-- whether both words are equal
 abbrev pub samePoint : CirclePoint → CirclePoint → Bool
 samePoint p q = eqb (p .x .0) (q .x .0) && eqb (p .y .0) (q .y .0)
 
@@ -98,6 +99,7 @@ sameCoset c d =
     && (samePoint (c .initial) (d .initial) && samePoint (c .step) (d .step))
     && eqb (c .«log_size») (d .«log_size»)
 
+-- whether c is d, doubled as often as their log sizes differ
 unfoldable pub isDoublingOf : Coset → Coset → Bool
 isDoublingOf c d = leb (c .«log_size») (d .«log_size») && sameCoset c (iterate (d .«log_size» - c .«log_size») doubled d)
 

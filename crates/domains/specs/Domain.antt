@@ -32,6 +32,7 @@ use Rattle.domains.specs.declared.iterator.CircleDomainIndexIteratorAnsw
 use Rattle.domains.specs.Record.{check, checkWithIndex}
 use Rattle.domains.specs.Coset.{cosetOf, indexAt, shifted, conjugated, iteratorOf}
 
+-- the domain of a half coset
 abbrev pub ofHalf : Coset → CircleDomain
 ofHalf c = record { «half_coset» = c }
 
@@ -55,7 +56,7 @@ indexAtAnswer d i = checked (check (d .«half_coset»)) I.Refused (I.Value (ofIn
 unfoldable pub atAnswer : CircleDomain → ℕ → CirclePointAnswer
 atAnswer d i = checked (check (d .«half_coset»)) P.Refused (P.Value (ofPoint (indexPoint (domainIndexAt (d .«half_coset») i))))
 
--- whether 4 times the initial index, reduced, equals the step
+-- whether 4 times the initial index, modulo 2^31, equals the step
 unfoldable pub isCanonicAnswer : CircleDomain → BoolAnswer
 isCanonicAnswer d =
     checked (check (d .«half_coset»)) B.Refused
@@ -78,7 +79,7 @@ splitAnswer d n words =
     checked (check (d .«half_coset») ++ (need (leb n (d .«half_coset» .«log_size»)) Doublings ++ need (leb (2 ^ n) words) Length)) Refused
     (Value (ofHalf (cosetOf (d .«half_coset» .«initial_index» .0) (d .«half_coset» .«log_size» - n))))
 
--- what a call with this answer leaves in the lent slice: the step times 0, 1, .., reduced
+-- what a call with this answer leaves in the lent slice: the step times 0, 1, .., modulo 2^31
 unfoldable pub splitExit : CircleDomainAnswer → CircleDomain → ℕ → List ℕ → List ℕ
 splitExit (Value part) d n shifts = listing (2 ^ n) (λ i. (d .«half_coset» .«step_size» .0 * i) % 2 ^ 31) ++ drop (2 ^ n) shifts
 splitExit (Refused why) d n shifts = shifts

@@ -24,6 +24,7 @@ use Rattle.fields.specs.declared.refusal.Refusal.the-variants.{Word, Inv
 abbrev pub pairOf : CM31 → ℕ × ℕ
 pairOf a = (a .0 .0, a .1 .0)
 
+-- the CM31 of the words a and b
 abbrev pub ofPair : ℕ × ℕ → CM31
 ofPair p = record { 0 = record { 0 = p .0 }; 1 = record { 0 = p .1 } }
 
@@ -37,9 +38,11 @@ pub record AllReduced (a b c d : CM31) : Type 0 where
   pub third : Reduced c
   pub fourth : Reduced d
 
+-- whether both words are below P
 abbrev pub reduced : CM31 → Bool
 reduced a = ltb (a .0 .0) P && ltb (a .1 .0) P
 
+-- whether both words are 0
 abbrev pub isZero : CM31 → Bool
 isZero a = eqb (a .0 .0) 0 && eqb (a .1 .0) 0
 

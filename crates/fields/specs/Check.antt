@@ -6,6 +6,7 @@ use Rattle.fields.specs.declared.refusal.Refusal.{Refusal}
 use Rattle.fields.specs.declared.check.Check.{Check}
 use Rattle.fields.specs.declared.check.Check.the-variants as C
 
+-- tests in their order, each with its refusal
 abbrev pub Checks : Type 0
 Checks = List (Bool × Refusal)
 

@@ -9,6 +9,7 @@ use Rattle.fields.specs.Check.{Checks, need}
 use Rattle.fields.specs.Search.{first}
 use Rattle.fields.specs.declared.refusal.Refusal.the-variants.{Word}
 
+-- whether word k is at or above P
 abbrev pub isBad : List ℕ → ℕ → Bool
 isBad column i = leb P (getD column i 0)
 

@@ -30,6 +30,7 @@ use Rattle.fields.specs.declared.refusal.Refusal.the-variants.{Word, Inv
 abbrev pub pairsOf : QM31 → (ℕ × ℕ) × (ℕ × ℕ)
 pairsOf a = (pairOf (a .0), pairOf (a .1))
 
+-- the QM31 of the parts p and q, each by its words
 abbrev pub ofPairs : (ℕ × ℕ) × (ℕ × ℕ) → QM31
 ofPairs p = record { 0 = ofPair (p .0); 1 = ofPair (p .1) }
 
@@ -43,9 +44,11 @@ pub record AllReduced (a b c d : QM31) : Type 0 where
   pub third : Reduced c
   pub fourth : Reduced d
 
+-- whether all words are below P
 abbrev pub reduced : QM31 → Bool
 reduced a = C.reduced (a .0) && C.reduced (a .1)
 
+-- whether all words are 0
 abbrev pub isZero : QM31 → Bool
 isZero a = C.isZero (a .0) && C.isZero (a .1)
 
@@ -140,6 +143,7 @@ partialEvals a b c d =
 abbrev pub elementAt : List QM31 → ℕ → QM31
 elementAt evals k = getD evals k (ofPairs (quarticWords .zero))
 
+-- what `from_partial_evals` answers of four elements
 abbrev pub checkedEvals : (a b c d : QM31) → QM31Answer
 checkedEvals a b c d =
     checked (words a ++ words b ++ words c ++ words d) Refused

@@ -4,6 +4,7 @@ use Rattle.fields.specs.declared.refusal.Refusal.{Refusal}
 use Rattle.fields.specs.declared.refusal.Refusal.the-variants.{LogSize, Index, Scalar, Length, Chunk, Word, Reduction}
 use Rattle.fields.specs.declared.refusal.Refusal.the-variants.{Inverse, Halving, Doublings, Circle, Narrowing}
 
+-- a refusal's number; the cases stand in the order of checking
 abbrev pub numberOf : Refusal → ℕ
 numberOf LogSize = 6
 numberOf Index = 4

@@ -5,6 +5,7 @@ use Rattle.algebra.specs.Extension.{extInverse}
 use Rattle.algebra.specs.Tower.{complex, twoPlusI, quartic}
 use Rattle.algebra.specs.M31.{P}
 
+-- a + b modulo P
 abbrev pub addP : ℕ → ℕ → ℕ
 addP a b = (a + b) % P
 
@@ -12,9 +13,11 @@ addP a b = (a + b) % P
 abbrev pub negP : ℕ → ℕ
 negP a = (P - a % P) % P
 
+-- a - b modulo P
 abbrev pub subP : ℕ → ℕ → ℕ
 subP a b = addP a (negP b)
 
+-- a times b modulo P
 abbrev pub mulP : ℕ → ℕ → ℕ
 mulP a b = (a * b) % P
 
@@ -22,7 +25,7 @@ mulP a b = (a * b) % P
 abbrev pub powP : ℕ → ℕ → ℕ
 powP a n = (a ^ n) % P
 
--- a to the power P - 2, which is the inverse of a for a from 1 to P - 1 (`Inverse`)
+-- a to the power P - 2, which is the inverse of a for a from 1 to P - 1 (proved in `Inverse.antt`)
 abbrev pub invP : ℕ → ℕ
 invP a = powP a (P - 2)
 
@@ -34,14 +37,14 @@ words31 = record { El = ℕ; zero = 0; one = 1; add = addP; mul = mulP; neg = ne
 abbrev pub complexWords : Ops
 complexWords = complex words31
 
--- (a - bi) / (a² + b²), which is the inverse of a + bi ≠ 0 (`Inverse`)
+-- (a - bi) / (a² + b²), which is the inverse of a + bi ≠ 0 (proved in `Inverse.antt`)
 abbrev pub complexInverse : ℕ × ℕ → ℕ × ℕ
 complexInverse = extInverse words31 (negP 1) invP
 
--- p + qu with u² = 2 + i, as the pair (p, q) of such pairs
+-- p + qu with u² = 2 + i, as the pair (p, q) of pairs (a, b) that stand for a + bi
 abbrev pub quarticWords : Ops
 quarticWords = quartic words31
 
--- (p - qu) / (p² - (2 + i) q²), which is the inverse of p + qu ≠ 0 (`Inverse`)
+-- (p - qu) / (p² - (2 + i) q²), which is the inverse of p + qu ≠ 0 (proved in `Inverse.antt`)
 abbrev pub quarticInverse : (ℕ × ℕ) × (ℕ × ℕ) → (ℕ × ℕ) × (ℕ × ℕ)
 quarticInverse = extInverse complexWords (twoPlusI words31) complexInverse

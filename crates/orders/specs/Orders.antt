@@ -55,7 +55,7 @@ reordered f l = wordsAt f 0 (length l) l
 abbrev pub logSize : ℕ → ℕ
 logSize size = first (λ n. eqb (2 ^ n) size) 64
 
--- the in-place pair: the length is a power of two, else number 8
+-- of the two in-place orders: the length is a power of two, else number 8
 unfoldable pub inPlaceAnswer : ℕ → WriteAnswer
 inPlaceAnswer size = checked (need (ltb (logSize size) 64) Length) W.Refused W.Written
 
@@ -73,7 +73,7 @@ cosetBitReversed n k = reverseBits n (toDomain (2 ^ n) k)
 abbrev pub lengthsFit : ℕ → ℕ → Bool
 lengthsFit values dst = leb values dst && eqb (values % 2) 0
 
--- the copying pair: the lengths fit, else number 8
+-- of the two copying orders: the lengths fit, else number 8
 unfoldable pub copyAnswer : ℕ → ℕ → WriteAnswer
 copyAnswer values dst = checked (need (lengthsFit values dst) Length) W.Refused W.Written
 

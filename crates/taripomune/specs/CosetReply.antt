@@ -48,6 +48,7 @@ canonicOfNumbers k x y s u v n = record { coset = ofNumbers k x y s u v n }
 unfoldable pub domainOfNumbers : ℕ → ℕ → ℕ → ℕ → ℕ → ℕ → ℕ → CircleDomain
 domainOfNumbers k x y s u v n = record { «half_coset» = ofNumbers k x y s u v n }
 
+-- the index to hand back next, the step, how many remain
 unfoldable pub iteratorOfNumbers : ℕ → ℕ → ℕ → CosetIterator
 iteratorOfNumbers cur step remaining = record { cur = ofIndex cur; step = ofIndex step; remaining = remaining }
 
@@ -57,6 +58,7 @@ indexIteratorOfNumbers a b c d e f = record { first = iteratorOfNumbers a b c; s
 
 -- ---- replies
 
+-- the seven numbers of a coset
 unfoldable pub cosetReply : CosetAnswer → CosetReply
 cosetReply (Value c) = record {
   number = 0;
@@ -91,6 +93,7 @@ unfoldable pub circleDomainReply : CircleDomainAnswer → CosetReply
 circleDomainReply (D.Value d) = cosetReply (Value (d .«half_coset»))
 circleDomainReply (D.Refused why) = cosetReply (Refused why)
 
+-- the index to hand back next, the step, how many remain
 unfoldable pub cosetIteratorReply : CosetIteratorAnswer → CosetIteratorReply
 cosetIteratorReply (T.Value it) = record {
   number = 0;
@@ -137,6 +140,7 @@ cosetStepReply (S.Refused why) = record {
   remaining = 0;
 }
 
+-- the numbers of the half coset's iterator, then of its conjugate's
 unfoldable pub indexIteratorReply : CircleDomainIndexIteratorAnswer → CircleDomainIndexIteratorReply
 indexIteratorReply (I.Value it) = record {
   number = 0;
@@ -159,6 +163,7 @@ indexIteratorReply (I.Refused why) = record {
   «second_remaining» = 0;
 }
 
+-- done or not, the index, both iterators after the step
 unfoldable pub circleDomainStepReply : CircleDomainStep → CircleDomainStepReply
 circleDomainStepReply (N.Next index it) = record {
   number = 0;

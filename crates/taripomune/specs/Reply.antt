@@ -35,22 +35,27 @@ use Rattle.taripomune.specs.declared.reply.SecurePointReply.{SecurePoint
 use Rattle.taripomune.specs.declared.reply.IndexReply.{IndexReply}
 use Rattle.taripomune.specs.declared.reply.WriteReply.{WriteReply}
 
+-- the word of an element
 unfoldable pub m31Reply : M31Answer → M31Reply
 m31Reply (Value a) = record { number = 0; position = 0; value = a .0 }
 m31Reply (Refused why) = record { number = numberOf why; position = positionOf why; value = 0 }
 
+-- yes as 1, no as 0
 abbrev pub yesOrNo : Bool → ℕ
 yesOrNo true = 1
 yesOrNo false = 0
 
+-- yes is 1, no is 0
 unfoldable pub boolReply : BoolAnswer → BoolReply
 boolReply (B.Value b) = record { number = 0; position = 0; value = yesOrNo b }
 boolReply (B.Refused why) = record { number = numberOf why; position = positionOf why; value = 0 }
 
+-- a number as it is
 unfoldable pub u32Reply : U32Answer → U32Reply
 u32Reply (U.Value value) = record { number = 0; position = 0; value = value }
 u32Reply (U.Refused why) = record { number = numberOf why; position = positionOf why; value = 0 }
 
+-- a number as it is
 unfoldable pub u64Reply : U64Answer → U64Reply
 u64Reply (L.Value value) = record { number = 0; position = 0; value = value }
 u64Reply (L.Refused why) = record { number = numberOf why; position = positionOf why; value = 0 }
@@ -109,6 +114,7 @@ securePointReply (S.Refused why) = record {
   y3 = 0;
 }
 
+-- the index as a number
 unfoldable pub indexReply : CirclePointIndexAnswer → IndexReply
 indexReply (I.Value value) = record { number = 0; position = 0; index = value .0 }
 indexReply (I.Refused why) = record { number = numberOf why; position = positionOf why; index = 0 }

@@ -22,13 +22,13 @@ pub extern "C" fn tari_m31_batch_inverse_in_place(column: &[u32], dst: &mut [u32
 pub extern "C" fn tari_m31_batch_inverse_chunked(
     column: &[u32],
     dst: &mut [u32],
-    chunk: u64,
+    chunk_size: u64,
 ) -> WriteReply
-    ensures { λ r. ⌜ (r ≡ writeReply (chunkedAnswer m31Column chunk (now (column .entry)) (length (now (dst .entry)))))
-        × (now (dst .exit) ≡ batchExit m31Column (chunkedAnswer m31Column chunk (now (column .entry)) (length (now (dst .entry))))
+    ensures { λ r. ⌜ (r ≡ writeReply (chunkedAnswer m31Column «chunk_size» (now (column .entry)) (length (now (dst .entry)))))
+        × (now (dst .exit) ≡ batchExit m31Column (chunkedAnswer m31Column «chunk_size» (now (column .entry)) (length (now (dst .entry))))
         (now (column .entry)) (now (dst .entry))) ⌝ }
 {
-    write_reply(batch_inverse_chunked(Field::M31, column, dst, chunk as usize))
+    write_reply(batch_inverse_chunked(Field::M31, column, dst, chunk_size as usize))
 }
 
 #[no_mangle]
@@ -44,13 +44,13 @@ pub extern "C" fn tari_cm31_batch_inverse_in_place(column: &[u32], dst: &mut [u3
 pub extern "C" fn tari_cm31_batch_inverse_chunked(
     column: &[u32],
     dst: &mut [u32],
-    chunk: u64,
+    chunk_size: u64,
 ) -> WriteReply
-    ensures { λ r. ⌜ (r ≡ writeReply (chunkedAnswer cm31Column chunk (now (column .entry)) (length (now (dst .entry)))))
-        × (now (dst .exit) ≡ batchExit cm31Column (chunkedAnswer cm31Column chunk (now (column .entry)) (length (now (dst .entry))))
+    ensures { λ r. ⌜ (r ≡ writeReply (chunkedAnswer cm31Column «chunk_size» (now (column .entry)) (length (now (dst .entry)))))
+        × (now (dst .exit) ≡ batchExit cm31Column (chunkedAnswer cm31Column «chunk_size» (now (column .entry)) (length (now (dst .entry))))
         (now (column .entry)) (now (dst .entry))) ⌝ }
 {
-    write_reply(batch_inverse_chunked(Field::CM31, column, dst, chunk as usize))
+    write_reply(batch_inverse_chunked(Field::CM31, column, dst, chunk_size as usize))
 }
 
 #[no_mangle]
@@ -66,11 +66,11 @@ pub extern "C" fn tari_qm31_batch_inverse_in_place(column: &[u32], dst: &mut [u3
 pub extern "C" fn tari_qm31_batch_inverse_chunked(
     column: &[u32],
     dst: &mut [u32],
-    chunk: u64,
+    chunk_size: u64,
 ) -> WriteReply
-    ensures { λ r. ⌜ (r ≡ writeReply (chunkedAnswer qm31Column chunk (now (column .entry)) (length (now (dst .entry)))))
-        × (now (dst .exit) ≡ batchExit qm31Column (chunkedAnswer qm31Column chunk (now (column .entry)) (length (now (dst .entry))))
+    ensures { λ r. ⌜ (r ≡ writeReply (chunkedAnswer qm31Column «chunk_size» (now (column .entry)) (length (now (dst .entry)))))
+        × (now (dst .exit) ≡ batchExit qm31Column (chunkedAnswer qm31Column «chunk_size» (now (column .entry)) (length (now (dst .entry))))
         (now (column .entry)) (now (dst .entry))) ⌝ }
 {
-    write_reply(batch_inverse_chunked(Field::QM31, column, dst, chunk as usize))
+    write_reply(batch_inverse_chunked(Field::QM31, column, dst, chunk_size as usize))
 }

@@ -98,10 +98,10 @@ pub extern "C" fn tari_cm31_square(a0: u32, a1: u32) -> CM31Reply
 }
 
 #[no_mangle]
-pub extern "C" fn tari_cm31_pow(a0: u32, a1: u32, high: u64, low: u64) -> CM31Reply
-    ensures { λ r. ⌜ r ≡ cm31Reply (powAnswer (ofPair (a0, a1)) (high * 2 ^ 64 + low)) ⌝ }
+pub extern "C" fn tari_cm31_pow(a0: u32, a1: u32, exp_high: u64, exp_low: u64) -> CM31Reply
+    ensures { λ r. ⌜ r ≡ cm31Reply (powAnswer (ofPair (a0, a1)) («exp_high» * 2 ^ 64 + «exp_low»)) ⌝ }
 {
-    cm31_reply(CM31(M31(a0), M31(a1)).pow(high, low))
+    cm31_reply(CM31(M31(a0), M31(a1)).pow(exp_high, exp_low))
 }
 
 #[no_mangle]

@@ -33,10 +33,10 @@ pub extern "C" fn tari_index_reduce(index: u64) -> IndexReply
 }
 
 #[no_mangle]
-pub extern "C" fn tari_index_subgroup_gen(log: u32) -> IndexReply
-    ensures { λ r. ⌜ r ≡ indexReply (subgroupGenAnswer log) ⌝ }
+pub extern "C" fn tari_index_subgroup_gen(log_size: u32) -> IndexReply
+    ensures { λ r. ⌜ r ≡ indexReply (subgroupGenAnswer «log_size») ⌝ }
 {
-    index_reply(CirclePointIndex::subgroup_gen(log))
+    index_reply(CirclePointIndex::subgroup_gen(log_size))
 }
 
 #[no_mangle]

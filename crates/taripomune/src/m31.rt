@@ -115,10 +115,10 @@ pub extern "C" fn tari_m31_square(a: u32) -> M31Reply
 }
 
 #[no_mangle]
-pub extern "C" fn tari_m31_pow(a: u32, high: u64, low: u64) -> M31Reply
-    ensures { λ r. ⌜ r ≡ m31Reply (powAnswer (ofWord a) (high * 2 ^ 64 + low)) ⌝ }
+pub extern "C" fn tari_m31_pow(a: u32, exp_high: u64, exp_low: u64) -> M31Reply
+    ensures { λ r. ⌜ r ≡ m31Reply (powAnswer (ofWord a) («exp_high» * 2 ^ 64 + «exp_low»)) ⌝ }
 {
-    m31_reply(M31(a).pow(high, low))
+    m31_reply(M31(a).pow(exp_high, exp_low))
 }
 
 #[no_mangle]

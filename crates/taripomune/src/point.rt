@@ -89,14 +89,14 @@ pub extern "C" fn tari_point_double_x(x: u32) -> M31Reply
 }
 
 #[no_mangle]
-pub extern "C" fn tari_point_mul(x: u32, y: u32, high: u64, low: u64) -> PointReply
-    ensures { λ r. ⌜ r ≡ pointReply (mulAnswer (ofPoint (x, y)) (high * 2 ^ 64 + low)) ⌝ }
+pub extern "C" fn tari_point_mul(x: u32, y: u32, scalar_high: u64, scalar_low: u64) -> PointReply
+    ensures { λ r. ⌜ r ≡ pointReply (mulAnswer (ofPoint (x, y)) («scalar_high» * 2 ^ 64 + «scalar_low»)) ⌝ }
 {
     let p = CirclePoint {
         x: M31(x),
         y: M31(y),
     };
-    point_reply(p.mul(high, low))
+    point_reply(p.mul(scalar_high, scalar_low))
 }
 
 #[no_mangle]

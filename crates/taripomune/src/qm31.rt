@@ -223,12 +223,12 @@ pub extern "C" fn tari_qm31_pow(
     a1: u32,
     a2: u32,
     a3: u32,
-    high: u64,
-    low: u64,
+    exp_high: u64,
+    exp_low: u64,
 ) -> QM31Reply
-    ensures { λ r. ⌜ r ≡ qm31Reply (powAnswer (ofPairs ((a0, a1), (a2, a3))) (high * 2 ^ 64 + low)) ⌝ }
+    ensures { λ r. ⌜ r ≡ qm31Reply (powAnswer (ofPairs ((a0, a1), (a2, a3))) («exp_high» * 2 ^ 64 + «exp_low»)) ⌝ }
 {
-    qm31_reply(QM31(CM31(M31(a0), M31(a1)), CM31(M31(a2), M31(a3))).pow(high, low))
+    qm31_reply(QM31(CM31(M31(a0), M31(a1)), CM31(M31(a2), M31(a3))).pow(exp_high, exp_low))
 }
 
 #[no_mangle]

@@ -149,16 +149,16 @@ pub extern "C" fn tari_secure_point_mul(
     y1: u32,
     y2: u32,
     y3: u32,
-    high: u64,
-    low: u64,
+    scalar_high: u64,
+    scalar_low: u64,
 ) -> SecurePointReply
-    ensures { λ r. ⌜ r ≡ securePointReply (mulAnswer (ofPoint (((x0, x1), (x2, x3)), ((y0, y1), (y2, y3)))) (high * 2 ^ 64 + low)) ⌝ }
+    ensures { λ r. ⌜ r ≡ securePointReply (mulAnswer (ofPoint (((x0, x1), (x2, x3)), ((y0, y1), (y2, y3)))) («scalar_high» * 2 ^ 64 + «scalar_low»)) ⌝ }
 {
     let p = SecureCirclePoint {
         x: QM31(CM31(M31(x0), M31(x1)), CM31(M31(x2), M31(x3))),
         y: QM31(CM31(M31(y0), M31(y1)), CM31(M31(y2), M31(y3))),
     };
-    secure_point_reply(p.mul(high, low))
+    secure_point_reply(p.mul(scalar_high, scalar_low))
 }
 
 #[no_mangle]
@@ -264,8 +264,8 @@ pub extern "C" fn tari_secure_point_complex_conjugate(
 }
 
 #[no_mangle]
-pub extern "C" fn tari_secure_point_get_point(high: u64, low: u64) -> SecurePointReply
-    ensures { λ r. ⌜ r ≡ securePointReply (getPointAnswer (high * 2 ^ 64 + low)) ⌝ }
+pub extern "C" fn tari_secure_point_get_point(index_high: u64, index_low: u64) -> SecurePointReply
+    ensures { λ r. ⌜ r ≡ securePointReply (getPointAnswer («index_high» * 2 ^ 64 + «index_low»)) ⌝ }
 {
-    secure_point_reply(SecureCirclePoint::get_point(high, low))
+    secure_point_reply(SecureCirclePoint::get_point(index_high, index_low))
 }

@@ -50,7 +50,8 @@ unfoldable pub evaluateExit : WriteAnswer → ℕ → List ℕ → List ℕ
 evaluateExit Written n column = valuesOf n column
 evaluateExit (Refused why) n column = column
 
--- what an interpolation with this answer leaves of the column: the coefficients that give it (`Theorem`: there is one such list)
+-- what an interpolation with this answer leaves of the column: the coefficients that give it (`Theorem.antt` proves that
+-- there is exactly one such list)
 unfoldable pub InterpolateExit : WriteAnswer → ℕ → List ℕ → List ℕ → Type 0
 InterpolateExit Written n column exit = Coefficients n exit column
 InterpolateExit (Refused why) n column exit = exit ≡ column

@@ -1,7 +1,7 @@
 //! The entry points of `crates/taripomune`: the contract of each, and what its names stand for.
 
 use crate::imports::Imports;
-use crate::specs::{Key, words};
+use crate::specs::{Named, words};
 use std::fs;
 use std::path::Path;
 
@@ -9,10 +9,12 @@ pub struct EntryPoint {
     pub name: String,
     /// The file, from the repository's root.
     pub file: String,
+    /// The names of its parameters.
+    pub parameters: Vec<String>,
     /// What its contract says of the reply `r` and of the slices.
     pub contract: Vec<String>,
     /// What of specs the contract names, in its order.
-    pub names: Vec<Key>,
+    pub names: Vec<Named>,
 }
 
 /// The functions with C linkage.
@@ -33,19 +35,24 @@ pub fn read(root: &Path) -> Vec<EntryPoint> {
 }
 
 fn entry_point(function: &str, imports: &Imports, file: &str) -> EntryPoint {
-    let name = function.split('(').next().unwrap().to_string();
+    let (name, rest) = function.split_once('(').expect("a function has parameters");
+    let name = name.to_string();
+    let list = rest.split_once(')').expect("parameters end").0;
+    let parameters =
+        list.split(',').filter_map(|parameter| Some(parameter.split_once(':')?.0.trim().to_string())).collect();
     let ensures = function.split_once("ensures {").unwrap_or_else(|| panic!("{name} has no contract")).1;
     let ensures = ensures.split_once("⌝ }").expect("a contract ends").0;
     let contract = ensures.trim().strip_prefix("λ r. ⌜").unwrap_or_else(|| panic!("{name}'s contract isn't of r"));
-    let mut names: Vec<Key> = vec![];
-    for (module, name) in words(&contract.replace('\n', " ")).filter_map(|word| imports.resolve(word)) {
-        let key = (module, name.to_string());
-        if !names.contains(&key) {
-            names.push(key);
+    let mut names: Vec<Named> = vec![];
+    for word in words(&contract.replace('\n', " ")) {
+        let Some((module, name)) = imports.resolve(word) else { continue };
+        let named = Named { key: (module, name.to_string()), word: word.to_string() };
+        if !names.contains(&named) {
+            names.push(named);
         }
     }
     let contract = at_margin(contract);
-    EntryPoint { name, file: file.to_string(), contract, names }
+    EntryPoint { name, file: file.to_string(), parameters, contract, names }
 }
 
 /// The lines of a contract from the left margin on, its first line's place being that of the word before it.

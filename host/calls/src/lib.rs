@@ -3,6 +3,7 @@
 
 #![forbid(unsafe_code)]
 
+mod declared;
 mod entry_points;
 mod imports;
 mod page;

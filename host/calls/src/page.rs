@@ -2,7 +2,7 @@
 
 use crate::entry_points::EntryPoint;
 use crate::refusals;
-use crate::specs::{Definition, Key, Specs};
+use crate::specs::{Definition, Key, Named, Specs};
 use std::collections::BTreeSet;
 use taripomune_header::{Header, Prototype, Section};
 
@@ -56,12 +56,15 @@ impl Page<'_> {
         if call.refusals().as_ref() != Some(&refusals) {
             return Err(format!("{name}: the contract refuses with {refusals:?}, its comment says: {}", call.comment));
         }
+        if !call.rattle_parameters().map(|parameter| &parameter.name).eq(&entry.parameters) {
+            return Err(format!("{name} has other parameters in the header than {:?}", entry.parameters));
+        }
         let mut text = format!("\n### {name}\n\n{}\n", indented(call.declaration.lines()));
         text += &wrapped(&format!("{}. {}", call.meaning(), self.refusal_sentence(&refusals)));
         text += &format!("\nPromised in `{}`:\n\n{}", entry.file, indented(entry.contract.iter().map(String::as_str)));
-        let (shown, others): (Vec<&Key>, Vec<&Key>) = entry.names.iter().partition(|key| is_shown(key));
-        let mut uses: Vec<Key> = others.into_iter().cloned().collect();
-        for key in shown {
+        let (shown, others): (Vec<&Named>, Vec<&Named>) = entry.names.iter().partition(|named| is_shown(&named.key.1));
+        let mut uses: Vec<Named> = others.into_iter().cloned().collect();
+        for Named { key, .. } in shown {
             let Some(definition) = self.specs.definitions.get(key) else { continue };
             text +=
                 &format!("\n{}\n", wrapped(&format!("`{}` in `{}`{}", key.1, definition.file, comment(definition))));
@@ -89,11 +92,11 @@ impl Page<'_> {
     }
 
     /// A line with links to definitions, which are added to those used.
-    fn uses(&self, names: &[Key], used: &mut BTreeSet<Key>) -> String {
+    fn uses(&self, names: &[Named], used: &mut BTreeSet<Key>) -> String {
         let mut links: Vec<String> = vec![];
-        for key in names.iter().filter(|key| self.specs.definitions.contains_key(*key)) {
+        for Named { key, word } in names.iter().filter(|named| self.specs.definitions.contains_key(&named.key)) {
             used.insert(key.clone());
-            let link = format!("[{}](#{})", key.1, anchor(key));
+            let link = format!("[{word}](#{})", anchor(key));
             if !links.contains(&link) {
                 links.push(link);
             }
@@ -105,9 +108,9 @@ impl Page<'_> {
     fn definitions(&self, mut used: BTreeSet<Key>) -> String {
         let mut open: Vec<Key> = used.iter().cloned().collect();
         while let Some(key) = open.pop() {
-            for name in self.specs.definitions.get(&key).map_or(&[][..], |definition| &definition.names) {
-                if self.specs.definitions.contains_key(name) && used.insert(name.clone()) {
-                    open.push(name.clone());
+            for Named { key, .. } in &self.specs.definitions[&key].names {
+                if self.specs.definitions.contains_key(key) && used.insert(key.clone()) {
+                    open.push(key.clone());
                 }
             }
         }
@@ -129,9 +132,9 @@ impl Page<'_> {
 }
 
 /// Whether a contract's name says what is answered or left: not one that only makes a record or a reply of numbers.
-fn is_shown(key: &Key) -> bool {
-    let makes_a_record = key.1.starts_with("of") || key.1.ends_with("OfNumbers");
-    !makes_a_record && !key.1.ends_with("Reply")
+fn is_shown(name: &str) -> bool {
+    let makes_a_record = name.starts_with("of") && name[2..].starts_with(char::is_uppercase);
+    !makes_a_record && !name.ends_with("OfNumbers") && !name.ends_with("Reply")
 }
 
 fn anchor((module, name): &Key) -> String {

@@ -1,16 +1,16 @@
 //! The refusals that a definition makes, in the order of its checks.
 
-use crate::specs::{Key, Specs};
+use crate::specs::{Key, Named, Specs};
 
 /// Where the cases of a refusal are declared.
 const CASES: &str = "declared.refusal.Refusal.the-variants";
 
 /// The numbers of the refusals that definitions make, in the order in which their texts name them; of equal ones that
 /// follow one another, one.
-pub fn of(names: &[Key], specs: &Specs) -> Vec<u32> {
+pub fn of(names: &[Named], specs: &Specs) -> Vec<u32> {
     let mut numbers = vec![];
-    for key in names {
-        collect(key, specs, &mut numbers);
+    for named in names {
+        collect(&named.key, specs, &mut numbers);
     }
     numbers.dedup();
     numbers
@@ -23,8 +23,8 @@ fn collect(key: &Key, specs: &Specs, numbers: &mut Vec<u32>) {
     } else if let Some(definition) = specs.definitions.get(key)
         && makes_refusals(&definition.result)
     {
-        for name in &definition.names {
-            collect(name, specs, numbers);
+        for named in &definition.names {
+            collect(&named.key, specs, numbers);
         }
     }
 }

@@ -1,5 +1,6 @@
 //! The definitions of the specs: their names, comments, texts and what they use.
 
+use crate::declared;
 use crate::imports::{Imports, Module};
 use std::collections::BTreeMap;
 use std::fs;
@@ -21,12 +22,19 @@ pub struct Definition {
     pub text: Vec<String>,
     /// What its type ends with.
     pub result: String,
-    /// The definitions and declared cases that its text names, in their order.
-    pub names: Vec<Key>,
+    /// What its text names, in its order.
+    pub names: Vec<Named>,
+}
+
+/// A definition, a declared type or one of its cases, by the word that stands for it.
+#[derive(Clone, PartialEq, Eq)]
+pub struct Named {
+    pub key: Key,
+    pub word: String,
 }
 
 impl Specs {
-    /// The specs of the crates of a repository.
+    /// The specs of the crates of a repository, and the types that their code declares.
     pub fn read(root: &Path) -> Specs {
         let mut specs = Specs { definitions: BTreeMap::new() };
         for krate in names_in(&root.join("crates")) {
@@ -36,6 +44,7 @@ impl Specs {
                 let module = Module::new(&krate, file.trim_end_matches(".antt"));
                 specs.add(&module, &format!("crates/{krate}/specs/{file}"), &text);
             }
+            specs.definitions.extend(declared::types(root, &krate));
         }
         specs
     }
@@ -46,16 +55,18 @@ impl Specs {
         let own: Vec<&str> = paragraphs.iter().filter_map(|paragraph| paragraph.name()).collect();
         for paragraph in &paragraphs {
             let Some(name) = paragraph.name() else { continue };
-            let words = paragraph.code.iter().flat_map(|line| words(line));
-            let named = words.filter_map(|word| match imports.resolve(word) {
+            let bound = paragraph.bound();
+            let lines = paragraph.context.iter().chain(&paragraph.code);
+            let words = lines.flat_map(|line| words(line)).filter(|word| !bound.contains(word));
+            let key = |word: &str| match imports.resolve(word) {
                 Some((module, name)) => Some((module, name.to_string())),
                 None => own.contains(&word).then(|| (module.clone(), word.to_string())),
-            });
+            };
             let own_key = (module.clone(), name.to_string());
-            let mut names: Vec<Key> = vec![];
-            for key in named {
-                if key != own_key && !names.contains(&key) {
-                    names.push(key);
+            let mut names: Vec<Named> = vec![];
+            for named in words.filter_map(|word| Some(Named { key: key(word)?, word: word.to_string() })) {
+                if named.key != own_key && !names.contains(&named) {
+                    names.push(named);
                 }
             }
             let definition = Definition {
@@ -144,6 +155,21 @@ impl Paragraph {
             Some(rest) => rest.split_whitespace().next(),
             None => head.split_once(" : ").map(|(name, _)| name).filter(|name| !name.contains(' ')),
         }
+    }
+
+    /// The names that it binds: its parameters, and what its equations take apart.
+    fn bound(&self) -> Vec<&str> {
+        let equation = format!("{} ", self.name().unwrap_or_default());
+        let mut bound = vec![];
+        for line in &self.code {
+            let binders = line.split(['(', '{']).filter_map(|part| part.split_once(" : "));
+            bound.extend(binders.flat_map(|(names, _)| names.split_whitespace()));
+            if let Some((taken, _)) = line.trim().strip_prefix(&equation).and_then(|line| line.split_once('=')) {
+                bound.extend(words(taken));
+            }
+        }
+        bound.retain(|name| Some(*name) != self.name());
+        bound
     }
 
     /// What the type ends with, up to the line that begins with the name: the first equation.

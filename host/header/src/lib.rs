@@ -123,6 +123,15 @@ impl Prototype {
         self.parameters.iter().any(|parameter| parameter.pointer.is_some())
     }
 
+    /// The parameters without the lengths of slices, which Rattle's slices have in themselves.
+    pub fn rattle_parameters(&self) -> impl Iterator<Item = &Variable> {
+        let is_length = |name: &str| {
+            let slice = name.strip_suffix("_len");
+            slice.is_some_and(|slice| self.parameters.iter().any(|p| p.name == slice && p.pointer.is_some()))
+        };
+        self.parameters.iter().filter(move |p| !is_length(&p.name))
+    }
+
     /// The first part of its comment, which says what it answers or does.
     pub fn meaning(&self) -> &str {
         self.comment.rsplit_once(". ").map_or("", |(meaning, _)| meaning)

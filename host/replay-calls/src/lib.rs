@@ -41,18 +41,9 @@ fn name(prototype: &Prototype) -> &str {
     prototype.name.strip_prefix("tari_").unwrap()
 }
 
-/// The parameters without the lengths of slices, which Rattle's slices have in themselves.
-fn parameters(prototype: &Prototype) -> impl Iterator<Item = &Variable> {
-    let is_length = |name: &str| {
-        let slice = name.strip_suffix("_len");
-        slice.is_some_and(|slice| prototype.parameters.iter().any(|p| p.name == slice && p.pointer.is_some()))
-    };
-    prototype.parameters.iter().filter(move |p| !is_length(&p.name))
-}
-
 /// The letters of `crates/replay/src/arguments.rt`.
 fn kinds(prototype: &Prototype) -> String {
-    parameters(prototype).map(kind).collect()
+    prototype.rattle_parameters().map(kind).collect()
 }
 
 fn kind(variable: &Variable) -> char {
@@ -109,6 +100,6 @@ fn replies_used(prototypes: &[&Prototype]) -> Vec<String> {
 }
 
 fn values_used(prototypes: &[&Prototype]) -> Vec<String> {
-    let numbers = prototypes.iter().flat_map(|p| parameters(p).filter(|v| v.pointer.is_none()).map(kind));
+    let numbers = prototypes.iter().flat_map(|p| p.rattle_parameters().filter(|v| v.pointer.is_none()).map(kind));
     numbers.map(|kind| format!("crate::values::{}", value(kind))).collect()
 }

@@ -1,7 +1,7 @@
 //! The calls that take slices. What they leave in the slices is read by `crates/replay/src/slices.rt`.
 
 use crate::library::Library;
-use crate::{HEAD, arms, kind, parameters, replies_used, table, uses, value, values_used};
+use crate::{HEAD, arms, kind, replies_used, table, uses, value, values_used};
 use taripomune_header::Prototype;
 
 pub fn file(library: &Library) -> String {
@@ -28,5 +28,5 @@ fn passed(call: &Prototype) -> Vec<String> {
         }
         _ => format!("{}(n, {})", value(kind), numbers.next().unwrap()),
     };
-    parameters(call).map(kind).map(passed).collect()
+    call.rattle_parameters().map(kind).map(passed).collect()
 }
