@@ -33,10 +33,8 @@ fn types_of(text: &str, krate: &str, module: &[String], file: &str) -> Vec<(Key,
     for (at, line) in lines.iter().enumerate() {
         let head = line.strip_prefix("pub struct ").or(line.strip_prefix("pub enum "));
         let Some(name) = head.and_then(|head| head.split(['(', ' ', '{']).next()) else { continue };
-        let length = lines[at..]
-            .iter()
-            .position(|line| line.ends_with(';') && head.is_some_and(|h| h.ends_with(';')) || *line == "}");
-        let text = lines[at..=at + length.expect("a type ends")].iter().map(|line| line.to_string()).collect();
+        let more = if line.ends_with(';') { Some(0) } else { lines[at..].iter().position(|line| *line == "}") };
+        let text = lines[at..=at + more.expect("a type ends")].iter().map(|line| line.to_string()).collect();
         let above = lines[..at].iter().rev().filter(|line| !line.starts_with("#["));
         let mut comment: Vec<String> = above.map_while(|line| line.strip_prefix("// ")).map(str::to_string).collect();
         comment.reverse();
