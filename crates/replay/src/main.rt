@@ -28,16 +28,31 @@ fn counted(t: Tally, same: bool) -> Tally {
     }
 }
 
+// The call of a name that takes numbers alone, in the first of so many modules that has it.
+fn called_on_numbers(modules: usize, name: &[u8], row: row::Row) -> reply::Reply {
+    let mut i: usize = 0;
+    while i < modules {
+        let reply = calls::called_in(i, name, row);
+        if reply.count != 0 {
+            return reply;
+        }
+        i += 1;
+    }
+    reply::unknown()
+}
+
+fn called_on_words(name: &[u8], row: row::Row) -> reply::Reply {
+    let reply = called_on_numbers(calls::MODULES, name, row);
+    if reply.count != 0 {
+        return reply;
+    }
+    slices::called(name, row)
+}
+
 // The call of a line whose slices have a form.
 fn called(form: Form, name: &[u8], row: row::Row) -> reply::Reply {
     match form {
-        Form::Words => {
-            let reply = calls::called(name, row);
-            if reply.count != 0 {
-                return reply;
-            }
-            slices::called(name, row)
-        }
+        Form::Words => called_on_words(name, row),
         Form::Rule => long_columns::called(name, row),
     }
 }

@@ -58,26 +58,21 @@ fn of_kinds(name: &str, group: &[&Prototype], place: usize) -> String {
     format!("fn {name}(place: usize, n: [u64; MOST]) -> Reply {{\n{numbers}{arms}}}\n\n")
 }
 
-/// The file that declares the others, and tries the modules one after the other.
+/// The file that declares the others, with a number for each module.
 pub fn root(library: &Library) -> String {
     let modules = library.modules_of_numbers();
     let mut files: Vec<String> = modules.iter().map(|module| format!("mod {module};\n")).collect();
     files.extend(["pub mod on_slices;\n".to_string(), "mod replies;\n".to_string()]);
     files.sort_by_key(|line| line.trim_start_matches("pub ").to_string());
-    let uses =
-        uses(["crate::reply::Reply".to_string(), "crate::row::Row".to_string(), "crate::reply::unknown".to_string()]);
-    let tried: String = modules
-        .iter()
-        .map(|module| {
-            format!(
-                "    let {module} = {module}::called(name, row);\n    if {module}.count != 0 {{\n        \
-                 return {module};\n    }}\n"
-            )
-        })
-        .collect();
+    let uses = uses(["reply::Reply", "reply::unknown", "row::Row"].map(|name| format!("crate::{name}")));
+    let arm = |(i, module)| format!("        {i} => {module}::called(name, row),\n");
+    let arms: String = modules.iter().enumerate().map(arm).collect();
     format!(
-        "{HEAD}\n{}\n{uses}\n// The call of a name that takes numbers alone.\n\
-         pub fn called(name: &[u8], row: Row) -> Reply {{\n{tried}    unknown()\n}}\n",
-        files.concat()
+        "{HEAD}\n{}\n{uses}\n// How many modules have calls that take numbers alone.\n\
+         pub const MODULES: usize = {};\n\n// The call of a name that takes numbers alone, if this module has it.\n\
+         pub fn called_in(module: usize, name: &[u8], row: Row) -> Reply {{\n    \
+         match module {{\n{arms}        _ => unknown(),\n    }}\n}}\n",
+        files.concat(),
+        modules.len()
     )
 }
