@@ -61,6 +61,9 @@ fn called(form: Form, name: &[u8], row: row::Row) -> reply::Reply {
 fn as_recorded(form: Form, line: &[u8]) -> bool {
     let end = line::until(line, 0, b' ');
     let row = row::read(line, end);
+    if row.bad {
+        return false;
+    }
     row::answers(row, called(form, &line[..end], row))
 }
 

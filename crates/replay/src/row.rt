@@ -94,9 +94,6 @@ fn is_at(row: Row, i: usize, value: u64) -> bool {
 
 // Whether the row's numbers after the sign = are the reply's.
 pub fn answers(row: Row, reply: Reply) -> bool {
-    if row.bad {
-        return false;
-    }
     if row.count < row.arguments {
         return false;
     }

@@ -8,31 +8,28 @@ use taripomune_header::Prototype;
 pub fn module(library: &Library, module: &str) -> String {
     let mut calls = library.calls_of_numbers(module);
     calls.sort_by_key(|call| (kinds(call).len(), kinds(call)));
-    let names = [
-        "crate::arguments::Form".to_string(),
-        "crate::arguments::taken_by".to_string(),
-        "crate::reply::Reply".to_string(),
-        "crate::reply::unknown".to_string(),
-        "crate::row::MOST".to_string(),
-        "crate::row::Row".to_string(),
-        format!("taripomune::{module} as calls"),
-    ];
-    let uses = uses(names.into_iter().chain(replies_used(&calls)).chain(values_used(&calls)));
+    let has_numbers = calls.iter().any(|call| !call.parameters.is_empty());
+    let names = ["arguments::Form", "arguments::taken_by", "reply::Reply", "reply::unknown", "row::Row"];
+    let names = names.into_iter().chain(has_numbers.then_some("row::MOST")).map(|name| format!("crate::{name}"));
+    let names = names.chain([format!("taripomune::{module} as calls")]);
+    let uses = uses(names.chain(replies_used(&calls)).chain(values_used(&calls)));
     let table = table(&calls);
+    let numbers = if has_numbers { "    let n = a.numbers;\n" } else { "" };
     let (mut arms, mut functions, mut place) = (String::new(), String::new(), 0);
     for group in calls.chunk_by(|one, other| kinds(one) == kinds(other)) {
-        let name = function_of(&kinds(group[0]));
+        let kinds = kinds(group[0]);
+        let (name, passed) = (function_of(&kinds), if kinds.is_empty() { "place" } else { "place, n" });
         let places = match group.len() {
             1 => place.to_string(),
             count => format!("{place}..={}", place + count - 1),
         };
-        arms += &format!("        {places} => {name}(place, n),\n");
-        functions += &of_kinds(&name, group, place);
+        arms += &format!("        {places} => {name}({passed}),\n");
+        functions += &of_kinds(&kinds, group, place);
         place += group.len();
     }
     format!(
         "{HEAD}\n{uses}\n{functions}pub fn called(name: &[u8], row: Row) -> Reply {{\n{table}    \
-         let a = taken_by(name, row, Form::Words, table);\n    let n = a.numbers;\n    let place = a.place;\n    \
+         let a = taken_by(name, row, Form::Words, table);\n{numbers}    let place = a.place;\n    \
          match place {{\n{arms}        _ => unknown(),\n    }}\n}}\n"
     )
 }
@@ -48,14 +45,16 @@ fn function_of(kinds: &str) -> String {
     if parts.is_empty() { "of_none".to_string() } else { format!("of{parts}") }
 }
 
-fn of_kinds(name: &str, group: &[&Prototype], place: usize) -> String {
+/// The function for calls of the same kinds, the first of them at a place.
+fn of_kinds(kinds: &str, calls: &[&Prototype], place: usize) -> String {
     let read = |(i, kind): (usize, char)| format!("    let a{i} = {}(n, {i});\n", value(kind));
-    let numbers: String = kinds(group[0]).chars().enumerate().map(read).collect();
-    let arms = arms(group, place, |prototype| {
-        let arguments = (0..prototype.parameters.len()).map(|i| format!("a{i}")).collect();
-        (format!("calls::{}", prototype.name), arguments)
+    let numbers: String = kinds.chars().enumerate().map(read).collect();
+    let arms = arms(calls, place, |call| {
+        let arguments = (0..kinds.len()).map(|i| format!("a{i}")).collect();
+        (format!("calls::{}", call.name), arguments)
     });
-    format!("fn {name}(place: usize, n: [u64; MOST]) -> Reply {{\n{numbers}{arms}}}\n\n")
+    let parameters = if kinds.is_empty() { "place: usize" } else { "place: usize, n: [u64; MOST]" };
+    format!("fn {}({parameters}) -> Reply {{\n{numbers}{arms}}}\n\n", function_of(kinds))
 }
 
 /// The file that declares the others, with a number for each module.

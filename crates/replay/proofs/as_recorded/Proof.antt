@@ -10,6 +10,9 @@ until-requires c κs = search needs
 read-requires : tie.Need-read-requires
 read-requires c κs = search needs
 
+returns : tie.Need-returns
+returns c = search needs
+
 slice-aggregate-called : tie.Need-slice-aggregate-called
 slice-aggregate-called c = simp length-take (omega arith)
 
@@ -19,8 +22,8 @@ called-requires c κs = search needs
 answers-requires : tie.Need-answers-requires
 answers-requires c κs = search needs
 
-returns : tie.Need-returns
-returns c = search needs
+returns-2 : tie.Need-returns-2
+returns-2 c = search needs
 
 pub as-recorded-spec : {M : Type 1} → statement M
 as-recorded-spec =
@@ -28,7 +31,8 @@ as-recorded-spec =
     (tie.spec
     until-requires
     read-requires
+    returns
     slice-aggregate-called
     called-requires
     answers-requires
-    returns)
+    returns-2)

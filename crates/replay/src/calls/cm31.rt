@@ -12,7 +12,7 @@ use crate::values::wide;
 use crate::values::word;
 use taripomune::cm31 as calls;
 
-fn of_none(place: usize, n: [u64; MOST]) -> Reply {
+fn of_none(place: usize) -> Reply {
     match place {
         0 => of_cm31(calls::tari_cm31_zero()),
         1 => of_cm31(calls::tari_cm31_one()),
@@ -117,7 +117,7 @@ pub fn called(name: &[u8], row: Row) -> Reply {
     let n = a.numbers;
     let place = a.place;
     match place {
-        0..=1 => of_none(place, n),
+        0..=1 => of_none(place),
         2 => of_w(place, n),
         3..=11 => of_2w(place, n),
         12..=19 => of_3w(place, n),

@@ -11,7 +11,7 @@ use crate::values::wide;
 use crate::values::word;
 use taripomune::index as calls;
 
-fn of_none(place: usize, n: [u64; MOST]) -> Reply {
+fn of_none(place: usize) -> Reply {
     match place {
         0 => of_index(calls::tari_index_zero()),
         1 => of_index(calls::tari_index_generator()),
@@ -64,7 +64,7 @@ pub fn called(name: &[u8], row: Row) -> Reply {
     let n = a.numbers;
     let place = a.place;
     match place {
-        0..=1 => of_none(place, n),
+        0..=1 => of_none(place),
         2..=5 => of_d(place, n),
         6 => of_w(place, n),
         7..=9 => of_2d(place, n),

@@ -12,7 +12,7 @@ use crate::values::wide;
 use crate::values::word;
 use taripomune::m31 as calls;
 
-fn of_none(place: usize, n: [u64; MOST]) -> Reply {
+fn of_none(place: usize) -> Reply {
     match place {
         0 => of_m31(calls::tari_m31_zero()),
         1 => of_m31(calls::tari_m31_one()),
@@ -109,7 +109,7 @@ pub fn called(name: &[u8], row: Row) -> Reply {
     let n = a.numbers;
     let place = a.place;
     match place {
-        0..=1 => of_none(place, n),
+        0..=1 => of_none(place),
         2..=3 => of_d(place, n),
         4 => of_i(place, n),
         5..=13 => of_w(place, n),

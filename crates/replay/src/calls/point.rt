@@ -14,7 +14,7 @@ use crate::values::wide;
 use crate::values::word;
 use taripomune::point as calls;
 
-fn of_none(place: usize, n: [u64; MOST]) -> Reply {
+fn of_none(place: usize) -> Reply {
     match place {
         0 => of_point(calls::tari_point_zero()),
         _ => unknown(),
@@ -106,7 +106,7 @@ pub fn called(name: &[u8], row: Row) -> Reply {
     let n = a.numbers;
     let place = a.place;
     match place {
-        0 => of_none(place, n),
+        0 => of_none(place),
         1 => of_w(place, n),
         2..=8 => of_2w(place, n),
         9 => of_2w_l(place, n),

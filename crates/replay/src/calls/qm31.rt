@@ -13,7 +13,7 @@ use crate::values::wide;
 use crate::values::word;
 use taripomune::qm31 as calls;
 
-fn of_none(place: usize, n: [u64; MOST]) -> Reply {
+fn of_none(place: usize) -> Reply {
     match place {
         0 => of_qm31(calls::tari_qm31_zero()),
         1 => of_qm31(calls::tari_qm31_one()),
@@ -207,7 +207,7 @@ pub fn called(name: &[u8], row: Row) -> Reply {
     let n = a.numbers;
     let place = a.place;
     match place {
-        0..=1 => of_none(place, n),
+        0..=1 => of_none(place),
         2 => of_d(place, n),
         3 => of_i(place, n),
         4..=5 => of_w(place, n),

@@ -12,7 +12,7 @@ use crate::values::wide;
 use crate::values::word;
 use taripomune::secure_point as calls;
 
-fn of_none(place: usize, n: [u64; MOST]) -> Reply {
+fn of_none(place: usize) -> Reply {
     match place {
         0 => of_secure_point(calls::tari_secure_point_zero()),
         _ => unknown(),
@@ -212,7 +212,7 @@ pub fn called(name: &[u8], row: Row) -> Reply {
     let n = a.numbers;
     let place = a.place;
     match place {
-        0 => of_none(place, n),
+        0 => of_none(place),
         1 => of_2d(place, n),
         2 => of_4w(place, n),
         3..=7 => of_8w(place, n),

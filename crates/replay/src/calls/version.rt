@@ -4,11 +4,10 @@ use crate::arguments::taken_by;
 use crate::calls::replies::of_u32;
 use crate::reply::Reply;
 use crate::reply::unknown;
-use crate::row::MOST;
 use crate::row::Row;
 use taripomune::version as calls;
 
-fn of_none(place: usize, n: [u64; MOST]) -> Reply {
+fn of_none(place: usize) -> Reply {
     match place {
         0 => of_u32(calls::tari_version()),
         _ => unknown(),
@@ -18,10 +17,9 @@ fn of_none(place: usize, n: [u64; MOST]) -> Reply {
 pub fn called(name: &[u8], row: Row) -> Reply {
     let table = b"version:";
     let a = taken_by(name, row, Form::Words, table);
-    let n = a.numbers;
     let place = a.place;
     match place {
-        0 => of_none(place, n),
+        0 => of_none(place),
         _ => unknown(),
     }
 }
