@@ -34,7 +34,11 @@ fn every_refusal_of_every_call_has_a_row_of_differences() {
     let root = Path::new(env!("CARGO_MANIFEST_DIR")).join("..");
     let header = Header::read(&fs::read_to_string(root.join("include/taripomune.h")).unwrap());
     let refusals = |call: &taripomune_header::Prototype| (call.name.clone(), call.refusals().unwrap());
-    let declared: BTreeMap<String, Vec<u32>> =
-        header.prototypes.iter().map(refusals).filter(|(_, refusals)| !refusals.is_empty()).collect();
-    assert_eq!(refusals_with_a_row(&fs::read_to_string(root.join("docs/DIFFERENCES.md")).unwrap()), declared);
+    let declared: BTreeMap<String, Vec<u32>> = header.prototypes.iter().map(refusals).collect();
+    let rows = refusals_with_a_row(&fs::read_to_string(root.join("docs/DIFFERENCES.md")).unwrap());
+    let unknown: Vec<&String> = rows.keys().filter(|name| !declared.contains_key(*name)).collect();
+    assert_eq!(unknown, Vec::<&String>::new(), "these have rows and aren't in the header");
+    for (name, declared) in declared {
+        assert_eq!(rows.get(&name).cloned().unwrap_or_default(), declared, "{name}: its rows, and the header");
+    }
 }
