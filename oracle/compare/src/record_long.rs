@@ -4,6 +4,7 @@ use crate::check::answers;
 use crate::entry::Entry;
 use common::library::Function;
 use stwo::core::fields::m31::P;
+use Argument::{Number, Read, Written};
 
 /// The file's name without its extension.
 pub const NAME: &str = "long_columns";
@@ -24,7 +25,7 @@ const MULTIPLIER: u64 = 16807;
 const SUM_MULTIPLIER: u64 = 48271;
 const SUM_PRIME: u64 = (1 << 40) - 87;
 
-/// A slice of a line.
+/// A slice of a line, as the file's head says.
 #[derive(Clone, Copy)]
 struct Rule {
     length: usize,
@@ -39,8 +40,6 @@ enum Argument {
     Read(Rule),
     Written(Rule),
 }
-
-use Argument::{Number, Read, Written};
 
 impl Rule {
     /// A slice whose words are all made from the seed.
@@ -59,7 +58,9 @@ impl Rule {
     fn words(&self) -> Vec<u32> {
         let next = |word: &u32| Some((u64::from(*word) * MULTIPLIER % u64::from(P)) as u32);
         let mut words: Vec<u32> = std::iter::successors(Some(self.seed), next).take(self.length).collect();
-        words.get_mut(self.place).map(|place| *place = self.word);
+        if let Some(place) = words.get_mut(self.place) {
+            *place = self.word;
+        }
         words
     }
 }
