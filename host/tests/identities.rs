@@ -35,6 +35,7 @@ fn m31_is_arithmetic_modulo_p() {
         assert_eq!(M31::try_from((x * y) as usize), Ok(a * b));
         assert_eq!(M31::partial_reduce((x + y) as u32), Ok(a + b));
         assert_eq!((M31::from(x as u32), M31::from_u32_unchecked(x as u32)), (a, Ok(a)));
+        assert_eq!(u32::from(a), x as u32);
         assert_eq!(M31::from(x as i32), a);
         assert_eq!(M31::from(-(x as i32)), -a);
         assert_eq!(a.sqn(3), a.pow(8));
@@ -205,6 +206,13 @@ fn check_points<F: CircleField>(list: &[F]) {
         assert_eq!(p.mul(1 << 64), p.repeated_double(64));
         assert_eq!((p.mul_signed(3), p.mul_signed(-3)), (Ok(p.mul(3)), Ok(p.conjugate().mul(3))));
     }
+}
+
+#[test]
+fn the_default_point_is_the_zero_of_the_circle() {
+    let (default, secure) = (CirclePoint::<M31>::default(), CirclePoint::<QM31>::default());
+    assert_eq!((default, default.log_order()), (CirclePoint::zero(), Ok(0)));
+    assert_eq!((secure, secure + SECURE_FIELD_CIRCLE_GEN), (CirclePoint::zero(), SECURE_FIELD_CIRCLE_GEN));
 }
 
 #[test]

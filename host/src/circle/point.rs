@@ -17,7 +17,7 @@ use taripomune_sys::{tari_point_reply, tari_secure_point_reply};
 /// assert_eq!(CirclePoint { x: M31::from(1), y: M31::from(5) }.log_order(), Err(Refusal::Circle));
 /// assert_eq!(g.mul_signed(isize::MIN), Err(Refusal::Scalar));
 /// ```
-#[derive(Clone, Copy, Debug, Default, PartialEq, Eq, Hash)]
+#[derive(Clone, Copy, Debug, PartialEq, Eq, Hash)]
 pub struct CirclePoint<F> {
     /// The first coordinate.
     pub x: F,
@@ -233,6 +233,22 @@ impl CirclePoint<QM31> {
     /// Refuses an index from P^4 - 1 on with 11.
     pub fn get_point(index: u128) -> Result<CirclePoint<QM31>, Refusal> {
         answer(call!(tari_secure_point_get_point(wide index)))
+    }
+}
+
+/// [`CirclePoint::zero`], which lies on the circle.
+///
+/// ```
+/// use taripomune::{CirclePoint, M31, M31_CIRCLE_GEN};
+///
+/// let point = CirclePoint::<M31>::default();
+/// assert_eq!(point, CirclePoint { x: M31::from(1), y: M31::from(0) });
+/// assert_eq!(point.log_order(), Ok(0));
+/// assert_eq!(point + M31_CIRCLE_GEN, M31_CIRCLE_GEN);
+/// ```
+impl<F: CircleField> Default for CirclePoint<F> {
+    fn default() -> CirclePoint<F> {
+        CirclePoint::zero()
     }
 }
 

@@ -162,6 +162,19 @@ impl TryFrom<QM31> for M31 {
     }
 }
 
+/// Its word.
+///
+/// ```
+/// use taripomune::{M31, P};
+///
+/// assert_eq!(u32::from(M31::from(-1)), P - 1);
+/// ```
+impl From<M31> for u32 {
+    fn from(value: M31) -> u32 {
+        value.word()
+    }
+}
+
 impl fmt::Display for M31 {
     fn fmt(&self, f: &mut fmt::Formatter<'_>) -> fmt::Result {
         self.0.fmt(f)
