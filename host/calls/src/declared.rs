@@ -16,7 +16,7 @@ fn read_folder(folder: &Path, krate: &str, above: &[String], found: &mut Vec<(Ke
     for entry in fs::read_dir(folder).into_iter().flatten() {
         let path = entry.unwrap().path();
         let name = path.file_stem().unwrap().to_str().unwrap().to_string();
-        let inside = [above, &[name.clone()]].concat();
+        let inside = [above, std::slice::from_ref(&name)].concat();
         if path.is_dir() {
             read_folder(&path, krate, &inside, found);
         } else {

@@ -1,63 +1,17 @@
-//! Writes the declarations of `include/taripomune.h` in Rust, makes the archive where it is missing or older than a
-//! source, and names it to the linker.
+//! The archive: where it is, and how it is made.
 
+use crate::cargo::CargoError;
+use crate::stop;
 use std::env;
 use std::fs;
-use std::io;
+use std::io::{self, BufRead, BufReader, Read};
 use std::path::{Path, PathBuf};
-use std::process::{Command, exit};
-use std::time::SystemTime;
-use taripomune_header::{Header, Pointer, Prototype, Reply, Variable};
-
-fn main() {
-    let root = Path::new(&env::var("CARGO_MANIFEST_DIR").unwrap()).join("../..").canonicalize().unwrap();
-    let header = root.join("include/taripomune.h");
-    println!("cargo::rerun-if-changed={}", header.display());
-    let text = fs::read_to_string(&header).unwrap_or_else(|error| stop(&format!("{}: {error}", header.display())));
-    let declarations = declarations(&Header::read(&text));
-    fs::write(Path::new(&env::var("OUT_DIR").unwrap()).join("declarations.rs"), declarations).unwrap();
-    link(&root);
-}
-
-/// Ends the build with a plain message.
-fn stop(message: &str) -> ! {
-    eprintln!("{message}");
-    exit(1)
-}
-
-fn declarations(header: &Header) -> String {
-    let replies: String = header.replies.iter().map(reply).collect();
-    let functions: String = header.prototypes.iter().map(function).collect();
-    format!("{replies}unsafe extern \"C\" {{\n{functions}}}\n")
-}
-
-fn reply(Reply { name, fields }: &Reply) -> String {
-    let fields: String = fields.iter().map(|f| format!("    pub {}: {},\n", f.name, f.rust_type)).collect();
-    format!(
-        "#[repr(C)]\n#[derive(Clone, Copy, Debug, PartialEq, Eq)]\npub struct {name} {{\n{fields}}}\n\n\
-         impl Reply for {name} {{\n\
-         \x20   fn refusal(&self) -> (u32, u64) {{\n        (self.number, self.position)\n    }}\n}}\n\n"
-    )
-}
-
-/// A function of numbers alone ends on every input and touches nothing, so that any caller may call it.
-fn function(prototype: &Prototype) -> String {
-    let Prototype { name, reply, parameters, .. } = prototype;
-    let parameters: Vec<String> = parameters.iter().map(declared).collect();
-    let safety = if prototype.has_slices() { "unsafe" } else { "safe" };
-    format!("    pub {safety} fn {name}({}) -> {reply};\n", parameters.join(", "))
-}
-
-fn declared(Variable { name, rust_type, pointer }: &Variable) -> String {
-    match pointer {
-        None => format!("{name}: {rust_type}"),
-        Some(Pointer::Const) => format!("{name}: *const {rust_type}"),
-        Some(Pointer::Mut) => format!("{name}: *mut {rust_type}"),
-    }
-}
+use std::process::{Child, Command, Output, Stdio};
+use std::thread;
+use std::time::{Instant, SystemTime};
 
 /// Names the archive of the folder `TARIPOMUNE_LIB`, or else the repository's own, which is made here.
-fn link(root: &Path) {
+pub fn link(root: &Path) {
     println!("cargo::rerun-if-env-changed=TARIPOMUNE_LIB");
     if env::var("TARGET").unwrap() != "x86_64-unknown-linux-gnu" {
         stop("libtaripomune.a is compiled for x86_64-unknown-linux-gnu, and for no other target");
@@ -87,20 +41,65 @@ fn link(root: &Path) {
 /// Proves the library and compiles it. What is proved already isn't proved again; from nothing it takes some minutes.
 fn make(root: &Path, archive: &Path) {
     let missing = format!("{} is missing or older than its sources", archive.display());
-    match Command::new("rt").args(["staticlib", "taripomune"]).current_dir(root).output() {
+    let began = Instant::now();
+    let rt = match start(root) {
+        Ok(rt) => rt,
         Err(error) if error.kind() == io::ErrorKind::NotFound => stop(&format!(
             "{missing}, and the Rattle toolchain that makes it isn't here: there is no `rt` on PATH.\n\
              Install the toolchain, or name the folder of an archive made elsewhere in TARIPOMUNE_LIB."
         )),
         Err(error) => stop(&format!("{missing}, and `rt staticlib taripomune` can't be started: {error}")),
+    };
+    let cargo = CargoError::open();
+    cargo.say("taripomune: proving the library with `rt staticlib taripomune`; from nothing this takes some minutes");
+    let tell = |line: &str| {
+        if is_verdict(line) {
+            cargo.say(line);
+        }
+    };
+    match follow(rt, tell) {
+        Err(error) => stop(&format!("{missing}, and `rt staticlib taripomune` can't be read: {error}")),
         Ok(output) if !output.status.success() => stop(&format!(
             "{missing}, and `rt staticlib taripomune` failed ({}):\n{}{}",
             output.status,
             String::from_utf8_lossy(&output.stdout),
             String::from_utf8_lossy(&output.stderr)
         )),
-        Ok(_) => {}
+        Ok(_) => cargo.say(&format!("taripomune: proved and compiled the library ({} s)", began.elapsed().as_secs())),
     }
+}
+
+fn start(root: &Path) -> io::Result<Child> {
+    let mut command = Command::new("rt");
+    command.args(["staticlib", "taripomune"]).current_dir(root);
+    command.stdin(Stdio::null()).stdout(Stdio::piped()).stderr(Stdio::piped()).spawn()
+}
+
+/// Whether a line of rt's says that a crate is proved: `rt: NAME proved (65 s)`.
+fn is_verdict(line: &str) -> bool {
+    let mut words = line.split_whitespace();
+    words.next() == Some("rt:") && words.nth(1) == Some("proved")
+}
+
+/// What a process writes until it ends, each line of it shown as it comes.
+fn follow(mut process: Child, show: impl Fn(&str) + Sync) -> io::Result<Output> {
+    let (stdout, stderr) = (process.stdout.take().unwrap(), process.stderr.take().unwrap());
+    thread::scope(|scope| {
+        let errors = scope.spawn(|| lines(stderr, &show));
+        let stdout = lines(stdout, &show)?;
+        let stderr = errors.join().unwrap()?;
+        Ok(Output { status: process.wait()?, stdout, stderr })
+    })
+}
+
+fn lines(stream: impl Read, show: &impl Fn(&str)) -> io::Result<Vec<u8>> {
+    let mut stream = BufReader::new(stream);
+    let (mut all, mut seen) = (Vec::new(), 0);
+    while stream.read_until(b'\n', &mut all)? > 0 {
+        show(String::from_utf8_lossy(&all[seen..]).trim_end());
+        seen = all.len();
+    }
+    Ok(all)
 }
 
 fn changed(file: &Path) -> Option<SystemTime> {
