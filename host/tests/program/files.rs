@@ -2,18 +2,16 @@
 
 use crate::support::*;
 use std::fs;
-use std::os::unix::fs::{FileExt, PermissionsExt, symlink};
+use std::os::unix::fs::{FileExt, symlink};
 use std::path::{Path, PathBuf};
-use std::process::{Child, Command, Stdio};
+use std::process::Stdio;
 use std::thread::sleep;
 use std::time::Duration;
 
 fn transform(direction: &str, input: &Path, output: &Path) -> (Option<i32>, String) {
-    ended(&program().arg(direction).args([input, output]).output().unwrap())
-}
-
-fn make_pipe(path: &Path) {
-    assert!(Command::new("mkfifo").arg(path).status().unwrap().success());
+    let ended = ended(program().arg(direction).args([input, output]));
+    assert_eq!(ended.said, "");
+    (ended.status, ended.told)
 }
 
 #[test]
@@ -42,7 +40,7 @@ fn a_file_may_become_its_own_result() {
 }
 
 #[test]
-fn a_refused_file_has_one_line_status_2_and_no_result() {
+fn a_refused_file_has_one_line_status_3_and_no_result() {
     let folder = Folder::new("refused");
     let (input, output) = (folder.path("in"), folder.path("out"));
     let length = "number 8, position 0: a column, its destination or scratch has a length that doesn't fit";
@@ -60,7 +58,7 @@ fn a_refused_file_has_one_line_status_2_and_no_result() {
         fs::write(&input, contents).unwrap();
         for direction in ["interpolate", "evaluate"] {
             let line = format!("taripomune: {}: {sentence}\n", input.display());
-            assert_eq!(transform(direction, &input, &output), (Some(2), line));
+            assert_eq!(transform(direction, &input, &output), (Some(3), line));
             assert!(!output.exists());
         }
     }
@@ -74,7 +72,7 @@ fn a_file_too_long_is_refused_unread() {
     // The file has a length and takes no room.
     fs::File::create(&input).unwrap().set_len(4 << 31).unwrap();
     let (status, line) = transform("interpolate", &input, &folder.path("out"));
-    assert_eq!(status, Some(2));
+    assert_eq!(status, Some(3));
     assert!(line.contains("number 6, position 0"), "{line}");
 }
 
@@ -87,11 +85,19 @@ fn a_file_that_cannot_be_read_is_told() {
     for name in ["missing", "loop", "folder", "pipe"] {
         let input = folder.path(name);
         let (status, line) = transform("evaluate", &input, &folder.path("out"));
-        assert_eq!(status, Some(1));
+        assert_eq!(status, Some(4));
         assert!(line.starts_with(&format!("taripomune: {}: can't be read: ", input.display())), "{line}");
         assert_eq!(line.lines().count(), 1);
         assert!(!folder.path("out").exists());
     }
+}
+
+#[test]
+fn a_link_that_the_command_names_leads_to_its_file() {
+    let folder = Folder::new("named-link");
+    fs::write(folder.path("file"), bytes(&column(3, 1))).unwrap();
+    symlink("file", folder.path("link")).unwrap();
+    assert_eq!(transform("evaluate", &folder.path("link"), &folder.path("out")), (Some(0), String::new()));
 }
 
 #[test]
@@ -111,16 +117,16 @@ fn a_result_that_cannot_be_written_is_told() {
 }
 
 #[test]
-fn a_full_disk_leaves_the_result_as_it_was() {
-    let folder = Folder::new("full");
+fn a_result_that_may_not_be_so_long_leaves_the_earlier_one() {
+    let folder = Folder::new("limited");
     let (input, output) = (folder.path("in"), folder.path("out"));
     fs::write(&input, bytes(&column(15, 1))).unwrap();
     fs::write(&output, "before").unwrap();
-    // No file may have more than a few blocks: writing fails in the middle, as it does when the disk is full.
-    let mut limited = program_after("trap '' XFSZ; ulimit -f 20");
-    let (status, line) = ended(&limited.arg("interpolate").args([&input, &output]).output().unwrap());
-    assert_eq!(status, Some(1));
-    assert!(line.contains("can't be written: "), "{line}");
+    // No file may have more than a few blocks: writing fails in the middle, and the signal that comes with it ends nothing.
+    let mut limited = program_after("ulimit -f 20");
+    let ended = ended(limited.arg("interpolate").args([&input, &output]));
+    assert_eq!(ended.status, Some(1));
+    assert!(ended.told.contains("can't be written: "), "{}", ended.told);
     assert_eq!(fs::read(&output).unwrap(), b"before");
     assert_eq!(left_over(&folder.path("")), Vec::<PathBuf>::new());
 }
@@ -131,8 +137,8 @@ fn what_another_program_writes_beside_is_not_touched() {
     fs::write(folder.path("in"), bytes(&column(3, 1))).unwrap();
     // The shell has the number of the process that the program will be.
     let mut command = program_after("echo other > .taripomune-$$.part");
-    let output = command.args(["evaluate", "in", "out"]).current_dir(folder.path("")).output().unwrap();
-    assert_eq!(ended(&output), (Some(0), String::new()));
+    let ended = ended(command.args(["evaluate", "in", "out"]).current_dir(folder.path("")));
+    assert_eq!((ended.status, ended.told.as_str()), (Some(0), ""));
     assert_eq!(fs::read(folder.path("out")).unwrap(), bytes(&evaluated(&column(3, 1))));
     let left = left_over(&folder.path(""));
     assert!(left.len() == 1 && fs::read(&left[0]).unwrap() == b"other\n");
@@ -142,21 +148,21 @@ type Disturb = fn(&fs::File);
 
 /// Starts the program on a file of 2^24 zeros, disturbs the file when some of it was read, and answers how the program
 /// ended.
-fn disturbed(input: &Path, output: &Path, disturb: Disturb) -> (Option<i32>, String) {
+fn disturbed(input: &Path, output: &Path, disturb: Disturb) -> Ended {
     let file = fs::File::create(input).unwrap();
     file.set_len(4 << 24).unwrap();
     let mut command = program();
     let mut child = command.arg("interpolate").args([input, output]).stderr(Stdio::piped()).spawn().unwrap();
-    while child.try_wait().unwrap().is_none() && bytes_read(&child) < 1 << 20 {
+    while child.try_wait().unwrap().is_none() && bytes_read(child.id()) < 1 << 20 {
         sleep(Duration::from_micros(200));
     }
     disturb(&file);
-    ended(&child.wait_with_output().unwrap())
+    child.wait_with_output().unwrap().into()
 }
 
 /// How many bytes a process has read.
-fn bytes_read(child: &Child) -> u64 {
-    let text = fs::read_to_string(format!("/proc/{}/io", child.id())).unwrap_or_default();
+fn bytes_read(process: u32) -> u64 {
+    let text = fs::read_to_string(format!("/proc/{process}/io")).unwrap_or_default();
     text.lines().find_map(|line| line.strip_prefix("rchar: ")).map_or(0, |count| count.parse().unwrap())
 }
 
@@ -175,9 +181,9 @@ fn a_file_disturbed_while_it_is_read_is_no_column() {
             let _ = fs::remove_file(&output);
             disturbed(&input, &output, disturb)
         });
-        let (status, line) = tries.find(|(status, _)| *status != Some(0)).unwrap();
-        assert_eq!(status, Some(1));
-        assert!(line.ends_with(&format!("in: can't be read: {sentence}\n")), "{line}");
+        let ended = tries.find(|ended| ended.status != Some(0)).unwrap();
+        assert_eq!(ended.status, Some(4));
+        assert!(ended.told.ends_with(&format!("in: can't be read: {sentence}\n")), "{}", ended.told);
         assert!(!output.exists());
     }
 }
@@ -199,78 +205,10 @@ fn a_result_takes_the_place_of_a_file_only() {
 }
 
 #[test]
-fn a_result_is_for_the_same_users() {
-    let folder = Folder::new("users");
-    for mode in [0o600, 0o640, 0o444] {
-        let (input, output) = (folder.path(&format!("in-{mode:o}")), folder.path(&format!("out-{mode:o}")));
-        fs::write(&input, bytes(&column(3, 1))).unwrap();
-        fs::set_permissions(&input, fs::Permissions::from_mode(mode)).unwrap();
-        assert_eq!(transform("interpolate", &input, &output).0, Some(0));
-        assert_eq!(fs::metadata(&output).unwrap().permissions().mode() & 0o777, mode);
-    }
-}
-
-#[test]
-fn a_name_with_a_line_break_gives_one_line() {
-    let folder = Folder::new("line-break");
-    let input = folder.path("a\nb\u{85}");
-    fs::write(&input, "12345").unwrap();
-    let (status, line) = transform("interpolate", &input, &folder.path("out"));
-    assert_eq!(status, Some(2));
-    assert!(line.lines().count() == 1 && line.contains("a\\x0ab\\xc2\\x85: number 8, position 0"), "{line}");
-}
-
-#[test]
-fn bad_arguments_get_a_sentence_and_status_2() {
-    let wrong: [&[&str]; 12] = [
-        &[],
-        &[""],
-        &["frobnicate"],
-        &["interpolate"],
-        &["interpolate", "in"],
-        &["evaluate", "in", "out", "more"],
-        &["interpolate", "--fast", "in", "out"],
-        &["evaluate", "--evaluate", "in", "out"],
-        &["run", "in"],
-        &["run", "--evaluate", "in"],
-        &["demo", "in"],
-        &["bench", "in", "out"],
-    ];
-    for words in wrong {
-        let output = program().args(words).output().unwrap();
-        let (status, line) = ended(&output);
-        assert_eq!(status, Some(2), "{words:?}");
-        assert!(line.starts_with("taripomune: ") && line.lines().count() == 1, "{line}");
-        assert!(output.stdout.is_empty());
-    }
-}
-
-#[test]
-fn each_command_has_help() {
-    for command in ["interpolate", "evaluate", "run", "demo", "bench"] {
-        let output = program().args([command, "--help"]).output().unwrap();
-        assert_eq!(ended(&output), (Some(0), String::new()));
-        let text = String::from_utf8(output.stdout).unwrap();
-        assert!(text.contains(&format!("taripomune {command}")), "{text}");
-    }
-    let output = program().arg("--help").output().unwrap();
-    assert!(output.status.success() && output.stdout.len() > 500);
-}
-
-#[test]
 fn a_name_may_begin_with_a_dash() {
     let folder = Folder::new("dash");
     fs::write(folder.path("-in"), bytes(&column(2, 1))).unwrap();
-    let mut command = program();
-    command.args(["evaluate", "--", "-in", "-out"]).current_dir(folder.path(""));
-    assert_eq!(ended(&command.output().unwrap()), (Some(0), String::new()));
+    let ended = ended(program().args(["evaluate", "--", "-in", "-out"]).current_dir(folder.path("")));
+    assert_eq!((ended.status, ended.told.as_str()), (Some(0), ""));
     assert!(folder.path("-out").exists());
-}
-
-#[test]
-fn the_demonstration_is_right() {
-    let output = program().arg("demo").output().unwrap();
-    assert_eq!(ended(&output), (Some(0), String::new()));
-    let text = String::from_utf8(output.stdout).unwrap();
-    assert!(text.ends_with("All 24 columns returned, and each total is 2^20 times coefficient 0.\n"), "{text}");
 }

@@ -2,155 +2,202 @@
 
 use crate::column_file::Direction;
 use crate::failure::Failure;
+use crate::help;
+use crate::names::escaped;
+use crate::output::Output;
+use crate::run::{self, MAX_LOG_SIZE};
 use std::ffi::{OsStr, OsString};
 use std::path::PathBuf;
+use std::time::Duration;
+use taripomune::{MAX_CIRCLE_DOMAIN_LOG_SIZE, MIN_CIRCLE_DOMAIN_LOG_SIZE};
 
 pub enum Command {
     Help(&'static str),
+    Version,
     /// From a file to a file.
     Transform(Direction, PathBuf, PathBuf),
     /// From a folder to a folder.
-    Run(Direction, PathBuf, PathBuf),
+    Run(run::Options),
+    Verify(PathBuf, PathBuf),
+    Total(PathBuf),
     Demo,
     /// With the folder that the table and the plot are written to.
     Bench(Option<PathBuf>),
 }
 
-const HELP: &str = "\
-taripomune: circle columns over the Mersenne prime P = 2^31 - 1
+/// The commands: their names, what `--help` says, and how a command is made of the words after its name.
+const COMMANDS: [(&str, &str, Take); 7] = [
+    ("run", help::RUN, |words| words.run()),
+    ("interpolate", help::TRANSFORM, |words| words.transform(Direction::Interpolate)),
+    ("evaluate", help::TRANSFORM, |words| words.transform(Direction::Evaluate)),
+    ("verify", help::VERIFY, |words| {
+        words.paths("VALUES and COEFFICIENTS").map(|[values, coefficients]| Command::Verify(values, coefficients))
+    }),
+    ("total", help::TOTAL, |words| words.paths("VALUES").map(|[values]| Command::Total(values))),
+    ("demo", help::DEMO, |words| words.paths("nothing more").map(|[]| Command::Demo)),
+    ("bench", help::BENCH, |words| words.bench()),
+];
 
-  taripomune interpolate IN OUT         a column file's values become coefficients
-  taripomune evaluate IN OUT            its coefficients become values
-  taripomune run IN_DIR OUT_DIR         interpolates every column file of a folder
-  taripomune run --evaluate IN_DIR OUT_DIR
-  taripomune demo                       sample balances there and back
-  taripomune bench [DIR]                the library's speed beside the Rust's
-  taripomune COMMAND --help             more about a command
+type Take = fn(Words) -> Result<Command, Failure>;
 
-A column file is 2^n words below P, n from 1 to 30, each as four bytes, the lowest first. Position p of a value column
-belongs to element bit_reverse_index(p, n) of the canonic circle domain of log size n.
-
-Exit status: 0 done; 2 a file was refused, or the arguments aren't a command; 1 a file can't be read or written, or
-something else failed.";
-
-const TRANSFORM_HELP: &str = "\
-taripomune interpolate IN OUT
-taripomune evaluate IN OUT
-
-Reads the column file IN and writes the coefficients of its values, or the values of its coefficients, to OUT. OUT
-appears whole or not at all, with the permissions of IN: it is written under another name beside OUT, synced and renamed.
-IN and OUT may be the same file. If IN is refused, a line on standard error has the refusal's number, its position and a
-sentence, the exit status is 2, and OUT stays as it was.";
-
-const RUN_HELP: &str = "\
-taripomune run [--evaluate] IN_DIR OUT_DIR
-
-Interpolates every column file of IN_DIR, in the order of the names, to a file of the same name in OUT_DIR; with
---evaluate it evaluates them. Folders, files whose names begin with a dot and the report of another run aren't taken. A
-refused file is told on standard error and has no file in OUT_DIR, and the run goes on; so it does past a file that
-can't be read. On a terminal a line shows the columns done, columns a minute and the time left. OUT_DIR is made if it
-isn't there; it must be empty or have been OUT_DIR before.
-
-At the end taripomune-report.tsv in OUT_DIR has a line for each column file: its name, its words, 'accepted' or the
-refusal's number and position or 'unreadable', milliseconds; tabs between them. Characters of a name that don't print
-are written as \\xHH. While a run goes on, or if it was stopped, there is no report.
-
-It may be stopped at any moment and started again: it goes on with the columns that aren't done, and does those again
-whose files aren't what they were, by their length, times and inode. OUT_DIR never holds a half-written column. The
-results of files that were taken out of IN_DIR stay. Put columns into IN_DIR whole: a file written to while it is read is
-told as unreadable only if that shows in its length or times.
-
-Exit status: 0 every column was accepted; 2 one was refused; 1 one couldn't be read, or the run couldn't go on.";
-
-const DEMO_HELP: &str = "\
-taripomune demo
-
-Makes a day of sample balances in a folder for temporary files, 24 columns of 2^20 cards, interpolates and evaluates
-them as 'taripomune run' does, and checks that they return and that 2^20 times coefficient 0 is their total.";
-
-const BENCH_HELP: &str = "\
-taripomune bench [DIR]
-
-Measures evaluation, interpolation, batch inversion, bit reversal, to_point and some more against the Rust, both in one
-run, and prints a table. With DIR it also writes benchmark.md and benchmark.svg there. It takes some minutes, and a
-program that was built with the feature 'baselines', which needs the sources of stwo.";
-
-/// Makes a command of the words after its name.
-type Take = fn(Options) -> Result<Command, Failure>;
-
-pub fn read(words: &[OsString]) -> Result<Command, Failure> {
-    let Some((name, rest)) = words.split_first() else {
-        return Err(bad("a command is missing; 'taripomune --help' lists them"));
-    };
-    let (help, take): (&str, Take) = match name.to_str() {
-        Some("help" | "--help" | "-h") => return Ok(Command::Help(HELP)),
-        Some("interpolate") => (TRANSFORM_HELP, |options| transform(Direction::Interpolate, options)),
-        Some("evaluate") => (TRANSFORM_HELP, |options| transform(Direction::Evaluate, options)),
-        Some("run") => (RUN_HELP, run),
-        Some("demo") => (DEMO_HELP, |options| options.paths("nothing more").map(|[]| Command::Demo)),
-        Some("bench") => (BENCH_HELP, bench),
-        _ => return Err(bad(&format!("{} is no command; 'taripomune --help' lists them", name.display()))),
-    };
-    match Options::read(rest)? {
-        Options { help: true, .. } => Ok(Command::Help(help)),
-        options => take(options),
-    }
+/// The command, and how it prints, which is known also if there is none.
+pub fn read(words: &[OsString]) -> (Output, Result<Command, Failure>) {
+    let mut read = Words::default();
+    let failure = read.read(words).err();
+    let (json, quiet) = (read.json, read.quiet);
+    let known = read.plain.first().and_then(|name| COMMANDS.iter().find(|(known, ..)| name == known));
+    let output = Output { command: known.map(|(name, ..)| *name), json, quiet };
+    (output, failure.map_or_else(|| read.command(), Err))
 }
 
-fn bad(sentence: &str) -> Failure {
-    Failure::Arguments(sentence.to_string())
+fn bad(sentence: String) -> Failure {
+    Failure::Arguments(sentence)
 }
 
-/// The words after the command's name.
-struct Options {
+#[derive(Default)]
+struct Words {
     help: bool,
+    version: bool,
+    json: bool,
+    quiet: bool,
     evaluate: bool,
-    paths: Vec<PathBuf>,
+    watch: bool,
+    max_log_size: Option<u32>,
+    jobs: Option<u32>,
+    heartbeat: Option<u32>,
+    /// The command, then its paths.
+    plain: Vec<OsString>,
 }
 
-impl Options {
-    fn read(words: &[OsString]) -> Result<Options, Failure> {
-        let mut options = Options { help: false, evaluate: false, paths: Vec::new() };
-        let mut words = words.iter();
+impl Words {
+    /// Reads all words, also after one that is wrong, since `--json` may be among them. The first failure is told.
+    fn read(&mut self, words: &[OsString]) -> Result<(), Failure> {
+        let mut words = words.iter().peekable();
+        let mut outcome = Ok(());
         while let Some(word) = words.next() {
-            match word.to_str() {
-                Some("--help" | "-h") => options.help = true,
-                Some("--evaluate") => options.evaluate = true,
+            let read = match word.to_str() {
                 // What follows is no option, whatever it begins with.
-                Some("--") => options.paths.extend(words.by_ref().map(PathBuf::from)),
-                _ if begins_with_dash(word) => return Err(bad(&format!("{} is no option", word.display()))),
-                _ => options.paths.push(word.into()),
+                Some("--") => {
+                    self.plain.extend(words.by_ref().cloned());
+                    Ok(())
+                }
+                Some(text) if begins_with_dash(word) => match text.split_once('=') {
+                    Some((name, value)) => self.number(name, || Some(OsStr::new(value))),
+                    None => self.flag(text).map_or_else(
+                        || self.number(text, || Some(words.next_if(|word| !begins_with_dash(word))?.as_os_str())),
+                        Ok,
+                    ),
+                },
+                None if begins_with_dash(word) => Err(no_option(word)),
+                _ => {
+                    self.plain.push(word.clone());
+                    Ok(())
+                }
+            };
+            outcome = outcome.and(read);
+        }
+        outcome
+    }
+
+    /// An option without a number.
+    fn flag(&mut self, name: &str) -> Option<()> {
+        *match name {
+            "--help" | "-h" => &mut self.help,
+            "--version" | "-V" => &mut self.version,
+            "--json" => &mut self.json,
+            "--quiet" => &mut self.quiet,
+            "--evaluate" => &mut self.evaluate,
+            "--watch" => &mut self.watch,
+            _ => return None,
+        } = true;
+        Some(())
+    }
+
+    /// An option with a number.
+    fn number<'a>(&mut self, name: &str, value: impl FnOnce() -> Option<&'a OsStr>) -> Result<(), Failure> {
+        let (place, range) = match name {
+            "--max-log-size" => (&mut self.max_log_size, MIN_CIRCLE_DOMAIN_LOG_SIZE..=MAX_CIRCLE_DOMAIN_LOG_SIZE),
+            "--jobs" => (&mut self.jobs, 1..=64),
+            "--heartbeat" => (&mut self.heartbeat, 1..=86400),
+            _ => return Err(no_option(OsStr::new(name))),
+        };
+        let number = value().and_then(|value| value.to_str()?.parse().ok()).filter(|number| range.contains(number));
+        let number =
+            number.ok_or_else(|| bad(format!("{name} takes a number from {} to {}", range.start(), range.end())));
+        match place.replace(number?) {
+            None => Ok(()),
+            Some(_) => Err(bad(format!("{name} stands there twice"))),
+        }
+    }
+
+    fn command(mut self) -> Result<Command, Failure> {
+        if self.version {
+            return Ok(Command::Version);
+        }
+        if self.plain.first().is_some_and(|word| word == "help") {
+            self.plain.remove(0);
+            self.help = true;
+        }
+        let Some(name) = self.plain.first().cloned() else {
+            return match self.help || self.is_bare() {
+                true => Ok(Command::Help(help::PROGRAM)),
+                false => Err(bad("a command is missing; 'taripomune --help' lists them".to_string())),
+            };
+        };
+        let Some((_, text, take)) = COMMANDS.iter().find(|(known, ..)| name == *known) else {
+            return Err(bad(format!("{} is no command; 'taripomune --help' lists them", escaped(&name))));
+        };
+        match self.help {
+            true => Ok(Command::Help(text)),
+            false => {
+                self.plain.remove(0);
+                take(self)
             }
         }
-        Ok(options)
     }
 
-    /// So many paths, and no options.
-    fn paths<const N: usize>(self, names: &str) -> Result<[PathBuf; N], Failure> {
-        if self.evaluate {
-            return Err(bad("--evaluate is an option of 'taripomune run' alone"));
-        }
-        self.paths.try_into().map_err(|_| bad(&format!("the command takes {names}; --help after it says more")))
+    /// Whether no option says what to do.
+    fn is_bare(&self) -> bool {
+        !self.evaluate && !self.watch && self.max_log_size.or(self.jobs).or(self.heartbeat).is_none()
     }
+
+    /// So many paths, and no options of a run.
+    fn paths<const N: usize>(self, names: &str) -> Result<[PathBuf; N], Failure> {
+        if !self.is_bare() {
+            return Err(bad("an option stands there that is for 'taripomune run' alone".to_string()));
+        }
+        let paths: Vec<PathBuf> = self.plain.into_iter().map(PathBuf::from).collect();
+        paths.try_into().map_err(|_| bad(format!("the command takes {names}; --help after it says more")))
+    }
+
+    fn transform(self, direction: Direction) -> Result<Command, Failure> {
+        self.paths("IN and OUT").map(|[input, output]| Command::Transform(direction, input, output))
+    }
+
+    fn run(self) -> Result<Command, Failure> {
+        if self.heartbeat.is_some() && !self.watch {
+            return Err(bad("--heartbeat goes with --watch".to_string()));
+        }
+        let watch = self.watch.then(|| Duration::from_secs(self.heartbeat.unwrap_or(60).into()));
+        let direction = if self.evaluate { Direction::Evaluate } else { Direction::Interpolate };
+        let max_log_size = self.max_log_size.unwrap_or(MAX_LOG_SIZE);
+        let jobs = self.jobs.unwrap_or(1) as usize;
+        let [columns, results] = Words { plain: self.plain, ..Words::default() }.paths("IN_DIR and OUT_DIR")?;
+        Ok(Command::Run(run::Options { direction, columns, results, max_log_size, jobs, watch }))
+    }
+
+    fn bench(self) -> Result<Command, Failure> {
+        match self.plain.len() {
+            0 => self.paths("one DIR at most").map(|[]| Command::Bench(None)),
+            _ => self.paths("one DIR at most").map(|[folder]| Command::Bench(Some(folder))),
+        }
+    }
+}
+
+fn no_option(word: &OsStr) -> Failure {
+    bad(format!("{} is no option", escaped(word)))
 }
 
 fn begins_with_dash(word: &OsStr) -> bool {
     word.as_encoded_bytes().starts_with(b"-") && word.len() > 1
-}
-
-fn transform(direction: Direction, options: Options) -> Result<Command, Failure> {
-    options.paths("IN and OUT").map(|[input, output]| Command::Transform(direction, input, output))
-}
-
-fn run(options: Options) -> Result<Command, Failure> {
-    let direction = if options.evaluate { Direction::Evaluate } else { Direction::Interpolate };
-    let options = Options { evaluate: false, ..options };
-    options.paths("IN_DIR and OUT_DIR").map(|[columns, results]| Command::Run(direction, columns, results))
-}
-
-fn bench(options: Options) -> Result<Command, Failure> {
-    match options.paths.len() {
-        0 => options.paths("one DIR at most").map(|[]| Command::Bench(None)),
-        _ => options.paths("one DIR at most").map(|[folder]| Command::Bench(Some(folder))),
-    }
 }

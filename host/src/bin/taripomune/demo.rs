@@ -1,13 +1,17 @@
 //! A day of sample balances there and back.
 
-use crate::column_file::{self, Direction};
+use crate::access::Access;
+use crate::column_file::Direction;
 use crate::failure::Failure;
-use crate::report::Summary;
-use crate::run::{self, Job};
-use crate::say;
+use crate::output::Output;
+use crate::result_file::{write_beside, write_words};
+use crate::run::report::{Line, Summary};
+use crate::run::{self, Options};
+use crate::system;
+use std::ffi::OsStr;
 use std::fs;
 use std::path::{Path, PathBuf};
-use std::time::UNIX_EPOCH;
+use std::time::{Duration, UNIX_EPOCH};
 use taripomune::{Field, M31, P};
 
 /// A column for each hour,
@@ -19,33 +23,44 @@ const LOG_CARDS: u32 = 20;
 /// A balance has so many bits: then the total is below P, so that it is known, and not only modulo P.
 const BALANCE_BITS: u32 = 11;
 
-pub fn demo() -> Result<(), Failure> {
+const WHY: &str = "\
+The total is the number that gets booked. Coefficient 0 is the mean of a column's values modulo P, since whatever the other
+coefficients add to some values they take from others. So whoever has the coefficients, or a proof about them, has the
+total, without the balances.";
+
+pub fn demo(output: Output) -> Result<(), Failure> {
+    system::note_signals();
     let day = Day::new()?;
     let [values, coefficients, returned] = ["values", "coefficients", "returned"].map(|name| day.folder.join(name));
     fs::create_dir(&values).map_err(Failure::machine(&values))?;
     let mut balances = Balances(M31::one());
     for hour in 0..HOURS {
-        column_file::write(&values.join(name(hour)), &balances.column(), None)?;
+        if system::is_stopped() {
+            return Err(Failure::Stopped);
+        }
+        let path = values.join(name(hour));
+        let written = write_beside(&path, "demo", Access::PRIVATE, |file| write_words(&balances.column(), file));
+        written.map_err(Failure::unwritable(&path))?;
     }
-    say(&format!("A day of sample balances: {HOURS} columns of {} cards, 0.00 to 20.47 each.", 1 << LOG_CARDS));
-    let there = run(Direction::Interpolate, &values, &coefficients)?;
-    let back = run(Direction::Evaluate, &coefficients, &returned)?;
-    say(&format!("\nhour  total of the balances  2^{LOG_CARDS} times coefficient 0  returned"));
+    output.say(&format!("A day of sample balances: {HOURS} columns of {} cards, 0.00 to 20.47 each.", 1 << LOG_CARDS));
+    let there = run(Direction::Interpolate, &values, &coefficients, output)?;
+    let back = run(Direction::Evaluate, &coefficients, &returned, output)?;
+    output.say(&format!("\n{WHY}\n\nhour  total of the balances  2^{LOG_CARDS} times coefficient 0  returned"));
     let mut right = 0;
     for hour in 0..HOURS {
-        right += usize::from(is_right(hour, &values, &coefficients, &returned)?);
+        right += usize::from(is_right(hour, &values, &coefficients, &returned, output)?);
     }
-    say(&format!("\ninterpolated: {}\nevaluated:    {}\n", speed(&there), speed(&back)));
+    output.say(&format!("\ninterpolated: {}\nevaluated:    {}\n", speed(&there), speed(&back)));
     if right < HOURS {
         let wrong = HOURS - right;
         return Err(Failure::Wrong(format!("{wrong} columns didn't return, or their totals are others")));
     }
-    say(&format!("All {HOURS} columns returned, and each total is 2^{LOG_CARDS} times coefficient 0."));
+    output.say(&format!("All {HOURS} columns returned, and each total is 2^{LOG_CARDS} times coefficient 0."));
     Ok(())
 }
 
 /// Shows a column's figures: whether it returned, with the total that coefficient 0 gives.
-fn is_right(hour: usize, values: &Path, coefficients: &Path, returned: &Path) -> Result<bool, Failure> {
+fn is_right(hour: usize, values: &Path, coefficients: &Path, returned: &Path, output: Output) -> Result<bool, Failure> {
     let [values, coefficients, returned] =
         [values, coefficients, returned].map(|folder| read(&folder.join(name(hour))));
     let (values, coefficients) = (values?, coefficients?);
@@ -54,7 +69,10 @@ fn is_right(hour: usize, values: &Path, coefficients: &Path, returned: &Path) ->
     let by_coefficient = u64::from((first * M31::from(2).pow(LOG_CARDS.into())).word());
     let same = values == returned?;
     let yes_or_no = if same { "yes" } else { "no" };
-    say(&format!("  {hour:02}  {:>21}  {:>24}  {yes_or_no:>8}", money(total), money(by_coefficient)));
+    output.say(&format!("  {hour:02}  {:>21}  {:>24}  {yes_or_no:>8}", money(total), money(by_coefficient)));
+    let line = Line::accepted(Some(values.len() as u64), Duration::ZERO);
+    let object = line.object(output, OsStr::new(&name(hour))).number("returned", same);
+    output.object(&object.text("total", &total.to_string()).number("by_coefficient_0", by_coefficient));
     Ok(same && by_coefficient == total)
 }
 
@@ -66,10 +84,13 @@ fn name(hour: usize) -> String {
     format!("hour-{hour:02}")
 }
 
-fn run(direction: Direction, columns: &Path, results: &Path) -> Result<Summary, Failure> {
-    let summary = run::run(&Job { direction, columns, results })?;
-    match summary.accepted {
+fn run(direction: Direction, columns: &Path, results: &Path, output: Output) -> Result<Summary, Failure> {
+    let (columns, results) = (columns.to_path_buf(), results.to_path_buf());
+    let options = Options { direction, columns, results, max_log_size: LOG_CARDS, jobs: 1, watch: None };
+    let summary = run::run(&options, Output { json: false, ..output })?.unwrap_or_default();
+    match summary.counts.accepted {
         HOURS => Ok(summary),
+        _ if summary.counts.left > 0 => Err(Failure::Stopped),
         accepted => Err(Failure::Wrong(format!("only {accepted} of {HOURS} columns were accepted"))),
     }
 }

@@ -1,20 +1,23 @@
 //! The table and the plot as files.
 
 use super::plot::plot;
-use crate::column_file::write_beside;
-use crate::failure::{Failure, shown};
-use crate::say;
+use crate::access::Access;
+use crate::failure::Failure;
+use crate::names::shown;
+use crate::output::Output;
+use crate::result_file::write_beside;
 use speed::Row;
 use std::fs;
 use std::io::Write;
 use std::path::Path;
 
 /// Writes `benchmark.md` and `benchmark.svg`.
-pub fn write(folder: &Path, rows: &[Row]) -> Result<(), Failure> {
+pub fn write(folder: &Path, rows: &[Row], output: Output) -> Result<(), Failure> {
     for (name, text) in [("benchmark.md", table(rows)), ("benchmark.svg", plot(rows))] {
         let path = folder.join(name);
-        write_beside(&path, "bench", None, |file| file.write_all(text.as_bytes()))?;
-        say(&shown(&path));
+        let written = write_beside(&path, "bench", Access::FOR_READERS, |file| file.write_all(text.as_bytes()));
+        written.map_err(Failure::unwritable(&path))?;
+        output.say(&shown(&path));
     }
     Ok(())
 }

@@ -1,6 +1,7 @@
 //! The line that shows on a terminal how far a run is.
 
-use crate::report::rate;
+use super::report::rate;
+use crate::output::Output;
 use std::io::{self, IsTerminal, Write};
 use std::time::{Duration, Instant};
 
@@ -10,24 +11,27 @@ const PAUSE: Duration = Duration::from_millis(100);
 pub struct Progress {
     shown: bool,
     columns: usize,
+    done: usize,
     start: Instant,
     last: Option<Instant>,
 }
 
 impl Progress {
-    pub fn new(columns: usize) -> Progress {
-        Progress { shown: io::stderr().is_terminal(), columns, start: Instant::now(), last: None }
+    /// Of so many columns to treat; shown if somebody may look at it.
+    pub fn new(output: Output, columns: usize) -> Progress {
+        let shown = !output.quiet && !output.json && io::stderr().is_terminal();
+        Progress { shown, columns, done: 0, start: Instant::now(), last: None }
     }
 
-    /// So many columns are done, some of them by a run before this one.
-    pub fn show(&mut self, done: usize, before: usize) {
-        if !self.shown || self.last.is_some_and(|last| last.elapsed() < PAUSE) {
-            return;
+    /// One more column is done.
+    pub fn count(&mut self) {
+        self.done += 1;
+        if self.shown && self.last.is_none_or(|last| last.elapsed() >= PAUSE) {
+            self.last = Some(Instant::now());
+            let line = line(self.done, self.columns, self.start.elapsed());
+            let _ = write!(io::stderr(), "\r\x1b[K{line}");
+            let _ = io::stderr().flush();
         }
-        self.last = Some(Instant::now());
-        let line = line(done, before, self.columns, self.start.elapsed());
-        let _ = write!(io::stderr(), "\r\x1b[K{line}");
-        let _ = io::stderr().flush();
     }
 
     /// Takes the line away, for another one to be written in its place.
@@ -38,9 +42,9 @@ impl Progress {
     }
 }
 
-fn line(done: usize, before: usize, columns: usize, time: Duration) -> String {
-    let rate = rate(done - before, time);
-    let left = if done > before { duration(60.0 * (columns - done) as f64 / rate) } else { "?".to_string() };
+fn line(done: usize, columns: usize, time: Duration) -> String {
+    let rate = rate(done, time);
+    let left = duration(60.0 * (columns - done) as f64 / rate);
     format!("{done} of {columns} columns, {rate:.0} a minute, {left} left")
 }
 
@@ -58,9 +62,8 @@ mod tests {
     use super::*;
 
     #[test]
-    fn a_line_has_the_rate_of_this_run_and_the_time_left() {
-        assert_eq!(line(30, 10, 40, Duration::from_secs(30)), "30 of 40 columns, 40 a minute, 15 s left");
-        assert_eq!(line(10, 10, 40, Duration::from_secs(1)), "10 of 40 columns, 0 a minute, ? left");
+    fn a_line_has_the_rate_and_the_time_left() {
+        assert_eq!(line(20, 30, Duration::from_secs(30)), "20 of 30 columns, 40 a minute, 15 s left");
         assert_eq!(duration(61.5), "1 min 2 s");
         assert_eq!(duration(7260.0), "2 h 1 min");
     }
