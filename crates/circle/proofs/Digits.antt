@@ -1,5 +1,5 @@
 -- An index by its digits, lowest first: the sum of the points of the digits seen is the point of the number they make.
-use Prim.Native.Nat.{ℕ, suc, _+_, _*_, _/_, _%_, _^_, _<_}
+use Prim.Native.Nat.{ℕ, suc, _+_, _-_, _*_, _/_, _%_, _^_, _<_}
 use mathlib.Core.Path.{_≡_, sym, _∙_, ap, ap₂}
 use native.Mathlib.Nat as N
 use native.Mathlib.Decide.{ℕ-discrete}
@@ -14,7 +14,7 @@ use Rattle.circle.specs.Point.{generator}
 use Rattle.circle.specs.Index.{indexPoint}
 use Rattle.circle.specs.Points.{multiple-add}
 use Rattle.circle.specs.Table.{windows, digits, InTable, entry}
-use Rattle.circle.specs.TableRule.{last-digit}
+use Rattle.circle.specs.TableRule.{digits-before-last, digits-last}
 
 power-pos : (w : ℕ) → 0 < digits ^ w
 power-pos w = N.one-le-pow w digits (lit< tt)
@@ -40,8 +40,8 @@ pub rest-next : (k w rest : ℕ) → rest ≡ k / digits ^ w → rest / digits �
 rest-next k w rest e =
     ap (λ (n : ℕ). n / digits) e ∙ N.div-div-eq-div-mul k (digits ^ w) digits ∙ ap (λ (n : ℕ). k / n) (sym (power-next w))
 
-pub sum-next : (k w rest : ℕ) (sum next point : ℕ × ℕ) → rest ≡ k / digits ^ w → sum ≡ indexPoint (k % digits ^ w) → point ≡ entry w (rest % digits)
-    → next ≡ plus words31 sum point → next ≡ indexPoint (k % digits ^ (w + 1))
+pub sum-next : (k w rest : ℕ) (sum next point : ℕ × ℕ) → rest ≡ k / digits ^ w → sum ≡ indexPoint (k % digits ^ w)
+    → point ≡ entry w (rest % digits) → next ≡ plus words31 sum point → next ≡ indexPoint (k % digits ^ (w + 1))
 sum-next k w rest sum next point e s p n =
     n ∙ ap₂ (plus words31) s (p ∙ ap (λ (r : ℕ). entry w (r % digits)) e)
     ∙ sym (multiple-add words31 m31 m31-representation (k % digits ^ w) (k / digits ^ w % digits * digits ^ w) generator)
@@ -52,10 +52,16 @@ pub sum-end : (k w : ℕ) → k < 2 ^ 31 → w ≡ windows → indexPoint (k % d
 sum-end k w h e = let f : k % digits ^ windows ≡ k = omega arith in ap (λ (n : ℕ). indexPoint (k % digits ^ n)) e ∙ ap indexPoint f
 
 -- a digit in its place is at most the number
-pub digit-below : (k w rest : ℕ) → k < 2 ^ 31 → rest ≡ k / digits ^ w → rest % digits * digits ^ w < 2 ^ 31
+digit-below : (k w rest : ℕ) → k < 2 ^ 31 → rest ≡ k / digits ^ w → rest % digits * digits ^ w < 2 ^ 31
 digit-below k w rest h e =
     omega (arith, ap (λ (r : ℕ). r % digits * digits ^ w) e, low-digits k w, N.div-add-mod' k (digits ^ (w + 1)))
 
--- the place of an entry in the table
-pub in-table : (w d : ℕ) → InTable w d → 2 * (digits * w + d) + 1 < 1792
-in-table w d t = elim (ℕ-discrete w 3) [ yes e ↦ omega (arith, last-digit w d (t .isIndex) e) | no n ↦ omega arith ]
+-- a digit of an index is one that the table has
+pub digit-in-table : (k w rest : ℕ) → k < 2 ^ 31 → w < windows → rest ≡ k / digits ^ w → InTable w (rest % digits)
+digit-in-table k w rest h l e = record {
+  isWindow = l;
+  isDigit = elim (ℕ-discrete w (windows - 1)) [
+    | yes f ↦ omega (arith, digits-last w f, digit-below k w rest h e, ap (λ (n : ℕ). rest % digits * digits ^ n) f)
+    | no n ↦ omega (arith, digits-before-last w (omega (arith, n)))
+  ];
+}

@@ -5,3 +5,4 @@ pub mod Order
 pub mod Cases
 pub mod Powers
 pub mod DoubleAndAdd
+pub mod Windows

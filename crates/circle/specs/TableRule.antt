@@ -1,22 +1,36 @@
--- The rule of the table: word 2 (256 w + d) is the x, and the next word the y, of entry (d 256^w) G.
+-- The rule of the table: at the place of window w, digit d stands the entry (d digits^w) G.
 use Prim.Native.Nat.{ℕ, zero, suc, _+_, _-_, _*_, _/_, _%_, _^_, _≤_, _<_}
-use mathlib.Core.Path.{_≡_, refl, sym, _∙_, ap}
-use mathlib.Core.List.{List, _∷_, _++_}
+use mathlib.Core.Path.{_≡_, refl, sym, _∙_, ap, ap₂, subst}
+use mathlib.Core.List.{List, [], _∷_, _++_}
 use native.Mathlib.Nat as N
+use native.Mathlib.Decide.{ℕ-discrete}
 use native.Mathlib.Omega.{arith}
-use lib.ListN.{length, getD, drop, List·getD-append}
-use lib.Seq.{getD-append-add, getD-take, getD-drop}
+use borrow.Author.Tests.{lt-ltb}
+use lib.ListN.{length, getD, take, drop, length-append, List·getD-append}
+use lib.Seq.{getD-append-add, getD-take, getD-drop, take-add, take-all}
 use Rattle.algebra.specs.M31.{m31}
 use Rattle.algebra.specs.Circle.{plus, multiple, zeroPoint}
 use Rattle.fields.specs.Words.{words31}
 use Rattle.fields.specs.Inverse.{m31-representation}
 use Rattle.circle.specs.Point.{generator}
 use Rattle.circle.specs.Points.{multiple-mul}
-use Rattle.circle.specs.Table.{windows, digits, lastDigits, InTable, entry, run, windowsFrom, tableWords, tableRow}
+use Rattle.circle.specs.Table.{windows, digits, lastDigits, digitsOf, InTable, place, entry, pointAt, FollowsRule}
+use Rattle.circle.specs.Table.{run, windowWords, nextBase, windowsFrom, tableWords, tableLength, rowPoints, rowLength, rows, tableRow}
 
--- point k of a list of points by their words
-abbrev pub pointAt : List ℕ → ℕ → ℕ × ℕ
-pointAt words k = (getD words (2 * k) 0, getD words (2 * k + 1) 0)
+pub digits-before-last : (w : ℕ) → w < windows - 1 → digitsOf w ≡ digits
+unfolding digitsOf
+digits-before-last w h = rw (lt-ltb w (windows - 1) h)
+
+pub digits-last : (w : ℕ) → w ≡ windows - 1 → digitsOf w ≡ lastDigits
+unfolding digitsOf
+digits-last w e = ap digitsOf e
+
+-- both words of an entry are in the table
+pub place-below : (w d : ℕ) → InTable w d → 2 * place w d + 1 < tableLength
+place-below w d t = elim (ℕ-discrete w (windows - 1)) [
+  | yes e ↦ omega (arith, digits-last w e, t .isDigit)
+  | no n ↦ omega (arith, digits-before-last w (omega (arith, n, t .isWindow)), t .isDigit, t .isWindow)
+]
 
 -- the first point apart
 point-at-cons : (x y : ℕ) (words : List ℕ) (k : ℕ) → pointAt (x ∷ y ∷ words) (suc k) ≡ pointAt words k
@@ -39,10 +53,13 @@ point-at-append-add xs ys n k e =
       (ap (λ (j : ℕ). getD (xs ++ ys) j 0) g ∙ getD-append-add xs ys (2 * k + 1) 0) i,
     )
 
-run-length : (n : ℕ) (base p : ℕ × ℕ) → length (run n base p) ≡ 2 * n
+pub run-length : (n : ℕ) (base p : ℕ × ℕ) → length (run n base p) ≡ 2 * n
 unfolding run
 run-length zero base p = refl
 run-length (suc n) base p = let e = run-length n base (plus words31 base p) in omega (arith, e)
+
+pub window-length : (window : ℕ) (base : ℕ × ℕ) → length (windowWords window base) ≡ 2 * digitsOf window
+window-length window base = run-length (digitsOf window) base (zeroPoint words31)
 
 -- point i of a run that starts with j times its base
 run-at : (n j i : ℕ) (base : ℕ × ℕ) → i < n → pointAt (run n base (multiple words31 j base)) i ≡ multiple words31 (j + i) base
@@ -57,55 +74,114 @@ run-start : (n i : ℕ) (base : ℕ × ℕ) → i < n → pointAt (run n base (z
 unfolding multiple
 run-start n i base h = run-at n 0 i base h ∙ ap (λ (k : ℕ). multiple words31 k base) (N.zero-add i)
 
--- window w, digit d, where m windows are followed by the last one
-window-at : (m w d : ℕ) (base : ℕ × ℕ) → w ≤ m → d < digits → (w ≡ m → d < lastDigits)
-    → pointAt (windowsFrom m base) (digits * w + d) ≡ multiple words31 (d * digits ^ w) base
+-- window v + w, digit d, among n windows from v on
+window-at : (n v w d : ℕ) (base : ℕ × ℕ) → v + n ≤ windows → w < n → d < digitsOf (v + w)
+    → pointAt (windowsFrom n v base) (place w d) ≡ multiple words31 (d * digits ^ w) base
 unfolding windowsFrom
-window-at zero zero d base l h k = ap (pointAt (run lastDigits base (zeroPoint words31))) (N.zero-add d)
-    ∙ run-start lastDigits d base (k refl) ∙ ap (λ (n : ℕ). multiple words31 n base) (sym (N.mul-one d))
-window-at zero (suc w) d base l h k = absurd (N.not-suc-le-zero l)
-window-at (suc m) zero d base l h k =
-    ap (pointAt (run digits base (zeroPoint words31) ++ windowsFrom m (multiple words31 digits base))) (N.zero-add d)
-    ∙ point-at-append (run digits base (zeroPoint words31)) (windowsFrom m (multiple words31 digits base)) digits d
-    (run-length digits base (zeroPoint words31)) h
-    ∙ run-start digits d base h ∙ ap (λ (n : ℕ). multiple words31 n base) (sym (N.mul-one d))
-window-at (suc m) (suc w) d base l h k =
-    ap (pointAt (run digits base (zeroPoint words31) ++ windowsFrom m (multiple words31 digits base))) (past w d)
-    ∙ point-at-append-add (run digits base (zeroPoint words31)) (windowsFrom m (multiple words31 digits base)) digits (digits * w + d)
-    (run-length digits base (zeroPoint words31))
-    ∙ window-at m w d (multiple words31 digits base) (N.le-of-suc-le-suc l) h (λ e. k (ap suc e))
+window-at zero v w d base l k h = absurd (N.not-suc-le-zero k)
+window-at (suc n) v zero d base l k h =
+    ap (pointAt (windowWords v base ++ windowsFrom n (suc v) (nextBase v base))) (N.zero-add d)
+    ∙ point-at-append (windowWords v base) (windowsFrom n (suc v) (nextBase v base)) (digitsOf v) d (window-length v base) here
+    ∙ run-start (digitsOf v) d base here ∙ ap (λ (m : ℕ). multiple words31 m base) (sym (N.mul-one d))
+  where
+    here : d < digitsOf v
+    here = subst (λ (w : ℕ). d < digitsOf w) (N.add-zero v) h
+window-at (suc n) v (suc w) d base l k h =
+    ap (λ (m : ℕ). pointAt (windowsFrom (suc n) v base) m) past
+    ∙ point-at-append-add (windowWords v base) (windowsFrom n (suc v) (nextBase v base)) (digitsOf v) (place w d) (window-length v base)
+    ∙ window-at n (suc v) w d (nextBase v base) (omega arith) (N.le-of-suc-le-suc k) there
+    ∙ ap (λ (m : ℕ). multiple words31 (d * digits ^ w) (multiple words31 m base)) full
     ∙ sym (multiple-mul words31 m31 m31-representation (d * digits ^ w) digits base)
     ∙ ap (λ (n : ℕ). multiple words31 n base) (N.mul-assoc d (digits ^ w) digits ∙ ap (λ (n : ℕ). d * n) (sym (N.pow-suc digits w)))
   where
-    past : (w d : ℕ) → digits * suc w + d ≡ digits + (digits * w + d)
-    past w d = omega arith
+    full : digitsOf v ≡ digits
+    full = digits-before-last v (omega arith)
 
--- an entry that exists lies in the last window only where its digit does
-pub last-digit : (w d : ℕ) → d * digits ^ w < 2 ^ 31 → w ≡ windows - 1 → d < lastDigits
-last-digit w d h e = omega (arith, ap (λ (n : ℕ). d * digits ^ n) e)
+    past : place (suc w) d ≡ digitsOf v + place w d
+    past = omega (arith, full)
 
-table-entry : (w d : ℕ) → InTable w d → pointAt tableWords (digits * w + d) ≡ entry w d
+    there : d < digitsOf (suc v + w)
+    there = subst (λ (w : ℕ). d < digitsOf w) (N.add-suc v w ∙ sym (N.suc-add v w)) h
+
+-- the rule, proved once: a list that is the computed one follows it
+pub table-rule : (table : List ℕ) → table ≡ tableWords → FollowsRule table
 unfolding tableWords
-table-entry w d t = window-at (windows - 1) w d generator (omega arith) (t .isDigit) (last-digit w d (t .isIndex))
+table-rule table e w d t =
+    ap (λ (words : List ℕ). pointAt words (place w d)) e ∙ window-at windows 0 w d generator (omega arith) (t .isWindow) from-zero
+  where
+    from-zero : d < digitsOf (0 + w)
+    from-zero = subst (λ (w : ℕ). d < digitsOf w) (sym (N.zero-add w)) (t .isDigit)
 
-row-at : (k i : ℕ) → i < 16 → pointAt (tableRow k) i ≡ pointAt tableWords (16 * k + i)
+windows-length : (n v : ℕ) (base : ℕ × ℕ) → v + suc n ≡ windows → length (windowsFrom (suc n) v base) ≡ 2 * (digits * n + lastDigits)
+unfolding windowsFrom
+windows-length zero v base e =
+    omega (arith, length-append (windowWords v base) [], window-length v base, digits-last v (omega arith))
+windows-length (suc n) v base e =
+    omega (
+      arith,
+      length-append (windowWords v base) (windowsFrom (suc n) (suc v) (nextBase v base)),
+      window-length v base,
+      digits-before-last v (omega arith),
+      windows-length n (suc v) (nextBase v base) (omega arith),
+    )
+
+pub table-length : length tableWords ≡ tableLength
+unfolding tableWords
+table-length = windows-length (windows - 1) 0 generator refl
+
+-- a point of a row
+row-at : (k i : ℕ) → i < rowPoints → pointAt (tableRow k) i ≡ pointAt tableWords (rowPoints * k + i)
 row-at k i h = λ j. (
-  word (2 * i) (2 * (16 * k + i)) (omega arith) (omega arith) j,
-  word (2 * i + 1) (2 * (16 * k + i) + 1) (omega arith) (omega arith) j,
+  word (2 * i) (2 * (rowPoints * k + i)) (omega arith) (omega arith) j,
+  word (2 * i + 1) (2 * (rowPoints * k + i) + 1) (omega arith) (omega arith) j,
 )
   where
-    word : (m n : ℕ) → m < 32 → 32 * k + m ≡ n → getD (tableRow k) m 0 ≡ getD tableWords n 0
-    word m n l e = getD-take 32 (drop (32 * k) tableWords) m 0 l ∙ getD-drop (32 * k) tableWords m 0 ∙ ap (λ (t : ℕ). getD tableWords t 0) e
+    word : (m n : ℕ) → m < rowLength → rowLength * k + m ≡ n → getD (tableRow k) m 0 ≡ getD tableWords n 0
+    word m n l e =
+        getD-take rowLength (drop (rowLength * k) tableWords) m 0 l ∙ getD-drop (rowLength * k) tableWords m 0
+        ∙ ap (λ (t : ℕ). getD tableWords t 0) e
 
 -- an entry in its row
-pub row-entry : (w d : ℕ) (row : List ℕ) → row ≡ tableRow ((digits * w + d) / 16) → InTable w d
-    → pointAt row ((digits * w + d) % 16) ≡ entry w d
+pub row-entry : (w d : ℕ) (row : List ℕ) → row ≡ tableRow (place w d / rowPoints) → InTable w d
+    → pointAt row (place w d % rowPoints) ≡ entry w d
 row-entry w d row e t =
-    ap (λ (t : List ℕ). pointAt t (at % 16)) e ∙ row-at (at / 16) (at % 16) (omega arith) ∙ ap (pointAt tableWords) div-mod-16
-    ∙ table-entry w d t
+    ap (λ (r : List ℕ). pointAt r (at % rowPoints)) e ∙ row-at (at / rowPoints) (at % rowPoints) (omega arith)
+    ∙ ap (pointAt tableWords) div-mod ∙ table-rule tableWords refl w d t
   where
     at : ℕ
-    at = digits * w + d
+    at = place w d
 
-    div-mod-16 : 16 * (at / 16) + at % 16 ≡ at
-    div-mod-16 = omega arith
+    div-mod : rowPoints * (at / rowPoints) + at % rowPoints ≡ at
+    div-mod = omega arith
+
+-- the first n rows, one after another
+unfoldable pub joined : ℕ → (ℕ → List ℕ) → List ℕ
+joined zero row = []
+joined (suc n) row = joined n row ++ row n
+
+module _ (row : ℕ → List ℕ) (is-row : (k : ℕ) → k < rows → row k ≡ tableRow k) where
+  joined-take : (n : ℕ) → n ≤ rows → joined n row ≡ take (rowLength * n) tableWords
+  unfolding joined
+  joined-take zero h = refl
+  joined-take (suc n) h =
+      let e : rowLength * n + rowLength ≡ rowLength * suc n = omega arith in
+      ap₂ (λ xs ys. xs ++ ys) (joined-take n (omega arith)) (is-row n h) ∙ sym (take-add (rowLength * n) rowLength tableWords)
+      ∙ ap (λ (m : ℕ). take m tableWords) e
+
+  rows-joined : joined rows row ≡ tableWords
+  rows-joined = joined-take rows (omega arith) ∙ take-all (rowLength * rows) tableWords (omega (arith, table-length))
+
+-- A computed table, as `point_table::compute` promises it, and the constant one, whose rows are as the contract of `row` has them:
+-- both follow the rule by the same law, and they are one list.
+pub record BothTables (computed constant : List ℕ) : Type 0 where
+  pub computed-rule : FollowsRule computed
+  pub constant-rule : FollowsRule constant
+  pub same : computed ≡ constant
+
+pub both-tables : (computed : List ℕ) (row : ℕ → List ℕ) → computed ≡ tableWords → ((k : ℕ) → k < rows → row k ≡ tableRow k)
+    → BothTables computed (joined rows row)
+both-tables computed row e is-row = record {
+  computed-rule = table-rule computed e;
+  constant-rule = table-rule (joined rows row) (rows-joined row is-row);
+  same = e ∙ sym (rows-joined row is-row);
+}

@@ -17,7 +17,7 @@ use Rattle.circle.specs.Index.{indexPoint}
 use Rattle.circle.specs.IndexPoints.{index-below}
 use Rattle.domains.specs.BitReversed.{halfIndex, halfPoint, half-further, half-index-start, half-add-quarter}
 use Rattle.domains.specs.Doubled.{half-double-x}
-use Rattle.circle.specs.TableRule.{pointAt}
+use Rattle.circle.specs.Table.{pointAt}
 use Rattle.transform.specs.Tree.{LinesFrom, LineTree, Points, Extended, Doubled}
 use Rattle.transform.specs.Twiddles.{even-or-odd}
 use Rattle.transform.proofs.Partly.{add-partly, sub-partly}

@@ -12,7 +12,7 @@ use Rattle.algebra.specs.Circle.{plus}
 use Rattle.fields.specs.Words.{words31}
 use Rattle.fields.specs.Inverse.{m31-representation}
 use Rattle.circle.specs.Index.{indexPoint}
-use Rattle.circle.specs.TableRule.{pointAt}
+use Rattle.circle.specs.Table.{pointAt}
 use Rattle.transform.specs.Tree.{Points, Extended, Stepped}
 use Rattle.transform.specs.Twiddles.{even-or-odd}
 use Rattle.transform.proofs.Pairs.{written, written-first, written-second}

@@ -9,7 +9,7 @@ use Rattle.algebra.specs.M31.{P}
 use Rattle.algebra.specs.Circle.{plus, doubleX}
 use Rattle.fields.specs.Words.{mulP, negP, words31}
 use Rattle.circle.specs.Index.{indexPoint}
-use Rattle.circle.specs.TableRule.{pointAt}
+use Rattle.circle.specs.Table.{pointAt}
 use Rattle.domains.specs.BitReversed.{halfPoint}
 use Rattle.column.specs.Butterflies.{evaluateBlock, interpolateBlock, scaled}
 use Rattle.transform.specs.Transform.{Coefficients}

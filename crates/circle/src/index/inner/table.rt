@@ -1,33 +1,29 @@
-// The constant table of points by windows of digits: window w, digit d has the point (d 256^w) G.
+// The constant table of points by windows of digits: window w, digit d has the point (d DIGITS^w) G.
 ghost use mathlib.Core.Path.{_≡_};
 ghost use Prim.Native.Nat.{_^_, _<_};
 ghost use Rattle.circle.specs.Point.{pointOf, Reduced};
 ghost use Rattle.circle.specs.Index.{indexPoint};
 ghost use Rattle.circle.specs.Table.{InTable, entry};
 use crate::index::CirclePointIndex;
-use crate::index::inner::table::rows::POINTS;
 use crate::point::CirclePoint;
 use crate::point::inner as point;
+use crate::point_table::DIGITS;
+use crate::point_table::WINDOWS;
 use fields::m31::M31;
 
 mod rows;
-
-const WINDOWS: usize = 4;
-
-// digits of a window; the last one ends where indices do, at 2^31
-const DIGITS: usize = 256;
 
 // The point of a digit of a window.
 fn entry(window: usize, digit: usize) -> CirclePoint
     requires { ⌜ InTable window digit ⌝ }
     ensures { λ r. ⌜ (pointOf r ≡ entry window digit) × Reduced r ⌝ }
 {
-    let at = DIGITS * window + digit;
-    let row = rows::row(at / POINTS);
-    let place = 2 * (at % POINTS);
+    let place = DIGITS * window + digit;
+    let row = rows::row(place / rows::POINTS);
+    let word = 2 * (place % rows::POINTS);
     CirclePoint {
-        x: M31(row[place]),
-        y: M31(row[place + 1]),
+        x: M31(row[word]),
+        y: M31(row[word + 1]),
     }
 }
 

@@ -1,12 +1,13 @@
-// The constant table in rows of 16 points, the x and y of each: row 16 w + h has the digits 16 h to 16 h + 15 of window
-// w. A function that names a constant array copies it to the stack, so a look-up copies one row.
+// The constant table in rows, the x and y of each point: row k has the points of the places POINTS k to POINTS k + POINTS
+// - 1. The program `point_table` writes these numbers, in this order. A function that names a constant array copies it to
+// the stack, so `entry` copies one row.
 ghost use mathlib.Core.Path.{_≡_};
 ghost use Prim.Native.Nat.{_<_};
 ghost use Rattle.circle.specs.Table.{rows, tableRow};
 
 pub const POINTS: usize = 16;
 
-const WORDS: usize = 32;
+const WORDS: usize = 2 * POINTS;
 
 pub fn row(k: usize) -> [u32; WORDS]
     requires { ⌜ k < rows ⌝ }

@@ -7,23 +7,22 @@ use Rattle.fields.specs.Inverse.{m31-representation}
 use Rattle.circle.specs.Point.{generator}
 use Rattle.circle.specs.Points.{PointReduced, multiple-reduced}
 use Rattle.circle.specs.Table.{digits}
-use Rattle.circle.specs.TableRule.{row-entry}
-use Rattle.circle.proofs.Digits.{in-table}
+use Rattle.circle.specs.TableRule.{place-below, row-entry}
 use borrow.Author.Needs.{needs}
 use Rattle.circle.proofs.index.inner.table.entry.Statement.{statement}
 use Rattle.circle.proofs.index.inner.table.entry.Tie as tie
 
-mul-at : tie.Need-mul-at
-mul-at c = search needs
-
-add-at : tie.Need-add-at
-add-at c = search needs
-
-row-requires : tie.Need-row-requires
-row-requires c κs = omega (arith, in-table (c .args .window) (c .args .digit) (c .pre))
-
 mul-place : tie.Need-mul-place
 mul-place c = search needs
+
+add-place : tie.Need-add-place
+add-place c = omega (arith, place-below (c .args .window) (c .args .digit) (c .pre))
+
+row-requires : tie.Need-row-requires
+row-requires c κs = omega (arith, place-below (c .args .window) (c .args .digit) (c .pre))
+
+mul-word : tie.Need-mul-word
+mul-word c = search needs
 
 mul-t6 : tie.Need-mul-t6
 mul-t6 c = search needs
@@ -44,19 +43,18 @@ returns : tie.Need-returns
 returns c =
     let w = c .before .args .window in
     let d = c .before .args .digit in
-    let e = row-entry w d (c .row .result) (c .row .ensures) (c .before .pre) in (
-      e,
-      subst (λ (p : ℕ × ℕ). PointReduced words31 m31 m31-representation p) (sym e) (multiple-reduced words31 m31 m31-representation (d * digits ^ w) generator),
-    )
+    let e = row-entry w d (c .row .result) (c .row .ensures) (c .before .pre) in
+    let reduced = multiple-reduced words31 m31 m31-representation (d * digits ^ w) generator in
+    (e, subst (λ (p : ℕ × ℕ). PointReduced words31 m31 m31-representation p) (sym e) reduced)
 
 pub entry-spec : {M : Type 1} → statement M
 entry-spec =
     tie.close
     (tie.spec
-    mul-at
-    add-at
-    row-requires
     mul-place
+    add-place
+    row-requires
+    mul-word
     mul-t6
     array-read-t10
     add-t12

@@ -4,19 +4,19 @@ use native.Mathlib.Omega.{arith}
 use lib.Dec.{lit<}
 use Rattle.circle.specs.Point.{pointOf, Reduced}
 use Rattle.circle.specs.Index.{indexPoint}
-use Rattle.circle.specs.Table.{digits}
+use Rattle.circle.specs.Table.{windows, digits}
 use Rattle.circle.specs.declared.point.CirclePoint.{CirclePoint}
-use Rattle.circle.proofs.Digits.{sum-start, rest-start, rest-next, sum-next, sum-end, digit-below}
+use Rattle.circle.proofs.Digits.{sum-start, rest-start, rest-next, sum-next, sum-end, digit-in-table}
 use borrow.Author.Needs.{needs}
 use Rattle.circle.proofs.index.inner.table.look_up.Statement.{statement}
 use Rattle.circle.proofs.index.inner.table.look_up.Tie as tie
 
 abbrev Inv-loop : tie.InvT-loop
-Inv-loop sum₀ rest₀ window₀ sum rest window = (Reduced sum) × (window ≤ 4) × (rest ≡ rest₀ / digits ^ window) ×
+Inv-loop sum₀ rest₀ window₀ sum rest window = (Reduced sum) × (window ≤ windows) × (rest ≡ rest₀ / digits ^ window) ×
     (pointOf sum ≡ indexPoint (rest₀ % digits ^ window))
 
 abbrev μ-loop : tie.MeasureT-loop
-μ-loop sum₀ rest₀ window₀ sum rest window = 4 - window
+μ-loop sum₀ rest₀ window₀ sum rest window = windows - window
 
 zero-requires : tie.Need-zero-requires Inv-loop μ-loop
 zero-requires c κs = search needs
@@ -33,12 +33,8 @@ loop-holds c =
 entry-requires : tie.Need-entry-requires Inv-loop μ-loop
 entry-requires c κs =
     let at = c .before .loop in
-    record {
-      isWindow = omega arith;
-      isDigit = omega arith;
-      isIndex =
-          digit-below (c .before .before .before .args .k .0) (at .window) (at .rest) (c .before .before .before .pre) (at .inv .2);
-    }
+    let start = c .before .before .before in
+    digit-in-table (start .args .k .0) (at .window) (at .rest) (start .pre) (omega arith) (at .inv .2)
 
 add-requires : tie.Need-add-requires Inv-loop μ-loop
 add-requires c κs = (c .before .before .loop .inv .0, c .entry .ensures .1)
@@ -56,7 +52,8 @@ loop-again c =
       c .add .ensures .1,
       omega arith,
       rest-next k (at .window) (at .rest) (at .inv .2),
-      sum-next k (at .window) (at .rest) (pointOf (at .sum)) (pointOf (c .add .result)) (pointOf (c .before .entry .result)) (at .inv .2) (at .inv .3) (c .before .entry .ensures .0) (c .add .ensures .0),
+      sum-next k (at .window) (at .rest) (pointOf (at .sum)) (pointOf (c .add .result)) (pointOf (c .before .entry .result)) (at .inv .2)
+          (at .inv .3) (c .before .entry .ensures .0) (c .add .ensures .0),
     )
 
 returns : tie.Need-returns Inv-loop μ-loop
