@@ -6,7 +6,7 @@ use std::path::Path;
 use taripomune::*;
 
 /// How many digits each window has: the last one ends where indices do, at 2^31.
-const DIGITS: [usize; 4] = [256, 256, 256, 128];
+const DIGITS: [usize; 8] = [16, 16, 16, 16, 16, 16, 16, 8];
 
 #[test]
 fn every_line_has_the_point_of_its_window_and_digit() {

@@ -1,11 +1,13 @@
--- An index by its digits, lowest first: the sum of the points of the digits seen is the point of the number they make.
-use Prim.Native.Nat.{ℕ, suc, _+_, _-_, _*_, _/_, _%_, _^_, _<_}
+-- An index by its digits, lowest first: the sum of the points of the digits seen is the point of the number they make. And the
+-- indices 2^k, whose points are entries of the table.
+use Prim.Native.Nat.{ℕ, zero, suc, _+_, _-_, _*_, _/_, _%_, _^_, _≤_, _<_}
 use mathlib.Core.Path.{_≡_, sym, _∙_, ap, ap₂}
 use native.Mathlib.Nat as N
 use native.Mathlib.Decide.{ℕ-discrete}
 use native.Mathlib.Omega.{arith}
 use lib.Arith.{mod-mul}
 use lib.Dec.{lit<}
+use lib.Pow as W
 use Rattle.algebra.specs.M31.{m31}
 use Rattle.algebra.specs.Circle.{plus, zeroPoint, multiple}
 use Rattle.fields.specs.Words.{words31}
@@ -13,7 +15,7 @@ use Rattle.fields.specs.Inverse.{m31-representation}
 use Rattle.circle.specs.Point.{generator}
 use Rattle.circle.specs.Index.{indexPoint}
 use Rattle.circle.specs.Points.{multiple-add}
-use Rattle.circle.specs.Table.{windows, digits, InTable, entry}
+use Rattle.circle.specs.Table.{windows, digitBits, digits, InTable, entry}
 use Rattle.circle.specs.TableRule.{digits-before-last, digits-last}
 
 power-pos : (w : ℕ) → 0 < digits ^ w
@@ -63,5 +65,28 @@ digit-in-table k w rest h l e = record {
   isDigit = elim (ℕ-discrete w (windows - 1)) [
     | yes f ↦ omega (arith, digits-last w f, digit-below k w rest h e, ap (λ (n : ℕ). rest % digits * digits ^ n) f)
     | no n ↦ omega (arith, digits-before-last w (omega (arith, n)))
+  ];
+}
+
+-- the number that the digit 2^r makes in window w
+power-of-digits : (w r : ℕ) → 2 ^ r * digits ^ w ≡ 2 ^ (digitBits * w + r)
+power-of-digits zero r = N.mul-one (2 ^ r) ∙ ap (λ (n : ℕ). 2 ^ n) (sym (N.zero-add r))
+power-of-digits (suc w) r =
+    let e : digitBits * w + r + digitBits ≡ digitBits * suc w + r = omega arith in
+    ap (λ (n : ℕ). 2 ^ r * n) (N.pow-suc digits w) ∙ sym (N.mul-assoc (2 ^ r) (digits ^ w) digits)
+    ∙ ap (λ (n : ℕ). n * digits) (power-of-digits w r) ∙ sym (W.pow-add 2 (digitBits * w + r) digitBits) ∙ ap (λ (n : ℕ). 2 ^ n) e
+
+pub power-entry : (log digit : ℕ) → digit ≡ 2 ^ (log % digitBits) → entry (log / digitBits) digit ≡ indexPoint (2 ^ log)
+power-entry log digit e =
+    let f : digitBits * (log / digitBits) + log % digitBits ≡ log = omega arith in
+    ap (entry (log / digitBits)) e ∙ ap indexPoint (power-of-digits (log / digitBits) (log % digitBits) ∙ ap (λ (n : ℕ). 2 ^ n) f)
+
+pub power-in-table : (log digit : ℕ) → log ≤ 30 → digit ≡ 2 ^ (log % digitBits) → InTable (log / digitBits) digit
+power-in-table log digit h e = record {
+  isWindow = omega arith;
+  isDigit = elim (ℕ-discrete (log / digitBits) (windows - 1)) [
+    | yes f ↦ omega (arith, digits-last (log / digitBits) f, e, W.pow-mono {i = log % digitBits} {j = 2} (omega (arith, f)))
+    | no n ↦
+        omega (arith, digits-before-last (log / digitBits) (omega (arith, n)), e, W.pow-mono {i = log % digitBits} {j = 3} (omega arith))
   ];
 }

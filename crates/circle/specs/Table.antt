@@ -1,10 +1,10 @@
--- The table of points: windows w = 0 to 3, digits d = 0 to 255 (to 127 in window 3), entry (d 256^w) G.
-use Prim.Native.Nat.{ℕ, zero, suc, _+_, _-_, _*_, _/_, _^_, _<_}
+-- The table of points: windows w = 0 to 7, digits d = 0 to 15 (to 7 in window 7), entry (d 16^w) G.
+use Prim.Native.Nat.{ℕ, zero, suc, _+_, _-_, _*_, _^_, _<_}
 use mathlib.Core.Path.{_≡_}
 use mathlib.Core.Bool.{cond}
 use mathlib.Core.List.{List, [], _∷_, _++_}
 use lib.Dec.{ltb}
-use lib.ListN.{length, getD, take, drop}
+use lib.ListN.{length, getD}
 use Rattle.algebra.specs.Circle.{plus, zeroPoint, multiple}
 use Rattle.fields.specs.Words.{words31}
 use Rattle.circle.specs.Point.{generator, pointOf, Reduced}
@@ -13,15 +13,19 @@ use Rattle.circle.specs.declared.point.CirclePoint.{CirclePoint}
 
 -- how many windows there are
 abbrev pub windows : ℕ
-windows = 4
+windows = 8
+
+-- how many bits a digit has
+abbrev pub digitBits : ℕ
+digitBits = 4
 
 -- digits of a window but the last
 abbrev pub digits : ℕ
-digits = 256
+digits = 2 ^ digitBits
 
 -- digits of the last window, since indices below 2^31 have no more there
 abbrev pub lastDigits : ℕ
-lastDigits = 128
+lastDigits = 8
 
 -- how many digits a window has; none where there is no such window
 unfoldable pub digitsOf : ℕ → ℕ
@@ -73,22 +77,6 @@ tableWords = windowsFrom windows 0 generator
 -- its words: an x and a y for each digit of each window
 abbrev pub tableLength : ℕ
 tableLength = 2 * (digits * (windows - 1) + lastDigits)
-
--- the constants lie in rows of so many points, which divide those of the table
-abbrev pub rowPoints : ℕ
-rowPoints = 16
-
--- the words of a row
-abbrev pub rowLength : ℕ
-rowLength = 2 * rowPoints
-
--- how many rows there are
-abbrev pub rows : ℕ
-rows = tableLength / rowLength
-
--- row k of the table
-abbrev pub tableRow : ℕ → List ℕ
-tableRow k = take rowLength (drop (rowLength * k) tableWords)
 
 -- what filling the words of a window of n digits asks, and what it leaves
 pub record FillingWindow (n : ℕ) (words : List ℕ) (base : CirclePoint) : Type 0 where

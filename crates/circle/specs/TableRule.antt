@@ -1,21 +1,21 @@
 -- The rule of the table: at the place of window w, digit d stands the entry (d digits^w) G.
-use Prim.Native.Nat.{ℕ, zero, suc, _+_, _-_, _*_, _/_, _%_, _^_, _≤_, _<_}
-use mathlib.Core.Path.{_≡_, refl, sym, _∙_, ap, ap₂, subst}
+use Prim.Native.Nat.{ℕ, zero, suc, _+_, _-_, _*_, _^_, _≤_, _<_}
+use mathlib.Core.Path.{_≡_, refl, sym, _∙_, ap, subst}
 use mathlib.Core.List.{List, [], _∷_, _++_}
 use native.Mathlib.Nat as N
 use native.Mathlib.Decide.{ℕ-discrete}
 use native.Mathlib.Omega.{arith}
 use borrow.Author.Tests.{lt-ltb}
-use lib.ListN.{length, getD, take, drop, length-append, List·getD-append}
-use lib.Seq.{getD-append-add, getD-take, getD-drop, take-add, take-all}
+use lib.ListN.{length, getD, length-append, List·getD-append}
+use lib.Seq.{getD-append-add}
 use Rattle.algebra.specs.M31.{m31}
 use Rattle.algebra.specs.Circle.{plus, multiple, zeroPoint}
 use Rattle.fields.specs.Words.{words31}
 use Rattle.fields.specs.Inverse.{m31-representation}
 use Rattle.circle.specs.Point.{generator}
 use Rattle.circle.specs.Points.{multiple-mul}
-use Rattle.circle.specs.Table.{windows, digits, lastDigits, digitsOf, InTable, place, entry, pointAt, FollowsRule}
-use Rattle.circle.specs.Table.{run, windowWords, nextBase, windowsFrom, tableWords, tableLength, rowPoints, rowLength, rows, tableRow}
+use Rattle.circle.specs.Table.{windows, digits, lastDigits, digitsOf, InTable, place, pointAt, FollowsRule}
+use Rattle.circle.specs.Table.{run, windowWords, nextBase, windowsFrom, tableWords, tableLength}
 
 pub digits-before-last : (w : ℕ) → w < windows - 1 → digitsOf w ≡ digits
 unfolding digitsOf
@@ -129,59 +129,16 @@ pub table-length : length tableWords ≡ tableLength
 unfolding tableWords
 table-length = windows-length (windows - 1) 0 generator refl
 
--- a point of a row
-row-at : (k i : ℕ) → i < rowPoints → pointAt (tableRow k) i ≡ pointAt tableWords (rowPoints * k + i)
-row-at k i h = λ j. (
-  word (2 * i) (2 * (rowPoints * k + i)) (omega arith) (omega arith) j,
-  word (2 * i + 1) (2 * (rowPoints * k + i) + 1) (omega arith) (omega arith) j,
-)
-  where
-    word : (m n : ℕ) → m < rowLength → rowLength * k + m ≡ n → getD (tableRow k) m 0 ≡ getD tableWords n 0
-    word m n l e =
-        getD-take rowLength (drop (rowLength * k) tableWords) m 0 l ∙ getD-drop (rowLength * k) tableWords m 0
-        ∙ ap (λ (t : ℕ). getD tableWords t 0) e
-
--- an entry in its row
-pub row-entry : (w d : ℕ) (row : List ℕ) → row ≡ tableRow (place w d / rowPoints) → InTable w d
-    → pointAt row (place w d % rowPoints) ≡ entry w d
-row-entry w d row e t =
-    ap (λ (r : List ℕ). pointAt r (at % rowPoints)) e ∙ row-at (at / rowPoints) (at % rowPoints) (omega arith)
-    ∙ ap (pointAt tableWords) div-mod ∙ table-rule tableWords refl w d t
-  where
-    at : ℕ
-    at = place w d
-
-    div-mod : rowPoints * (at / rowPoints) + at % rowPoints ≡ at
-    div-mod = omega arith
-
--- the first n rows, one after another
-unfoldable pub joined : ℕ → (ℕ → List ℕ) → List ℕ
-joined zero row = []
-joined (suc n) row = joined n row ++ row n
-
-module _ (row : ℕ → List ℕ) (is-row : (k : ℕ) → k < rows → row k ≡ tableRow k) where
-  joined-take : (n : ℕ) → n ≤ rows → joined n row ≡ take (rowLength * n) tableWords
-  unfolding joined
-  joined-take zero h = refl
-  joined-take (suc n) h =
-      let e : rowLength * n + rowLength ≡ rowLength * suc n = omega arith in
-      ap₂ (λ xs ys. xs ++ ys) (joined-take n (omega arith)) (is-row n h) ∙ sym (take-add (rowLength * n) rowLength tableWords)
-      ∙ ap (λ (m : ℕ). take m tableWords) e
-
-  rows-joined : joined rows row ≡ tableWords
-  rows-joined = joined-take rows (omega arith) ∙ take-all (rowLength * rows) tableWords (omega (arith, table-length))
-
--- A computed table, as `point_table::compute` promises it, and the constant one, whose rows are as the contract of `row` has them:
--- both follow the rule by the same law, and they are one list.
+-- The computed table, by the contract of `point_table::compute`, and the constant one, by that of `points`: both follow the rule by
+-- the same law, and they are one list.
 pub record BothTables (computed constant : List ℕ) : Type 0 where
   pub computed-rule : FollowsRule computed
   pub constant-rule : FollowsRule constant
   pub same : computed ≡ constant
 
-pub both-tables : (computed : List ℕ) (row : ℕ → List ℕ) → computed ≡ tableWords → ((k : ℕ) → k < rows → row k ≡ tableRow k)
-    → BothTables computed (joined rows row)
-both-tables computed row e is-row = record {
+pub both-tables : (computed constant : List ℕ) → computed ≡ tableWords → constant ≡ tableWords → BothTables computed constant
+both-tables computed constant e f = record {
   computed-rule = table-rule computed e;
-  constant-rule = table-rule (joined rows row) (rows-joined row is-row);
-  same = e ∙ sym (rows-joined row is-row);
+  constant-rule = table-rule constant f;
+  same = e ∙ sym f;
 }

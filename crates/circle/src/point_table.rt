@@ -1,16 +1,23 @@
-// The table of points from its rule, window w and digit d have the point (d DIGITS^w) G, computed from G alone.
+// The table of points, computed from G alone: window w, digit d has the point (d DIGITS^w) G. `constant` has the same table
+// as numbers.
 ghost use mathlib.Core.Path.{_≡_};
 ghost use lib.ListN.{length};
 ghost use Rattle.circle.specs.Table.{digitsOf, tableWords, tableLength, FillingWindow, FilledWindow};
 use crate::point::CirclePoint;
 use crate::point::inner as point;
 
-pub const WINDOWS: usize = 4;
+pub mod constant;
+pub mod inner;
+
+pub const WINDOWS: usize = 8;
+
+// how many bits a digit has
+pub const DIGIT_BITS: u32 = 4;
 
 // the digits of a window but the last, which ends where indices do, at 2^31
-pub const DIGITS: usize = 256;
+pub const DIGITS: usize = 1 << DIGIT_BITS;
 
-const LAST_DIGITS: usize = 128;
+const LAST_DIGITS: usize = 8;
 
 // the words of the table: an x and a y for each digit of each window
 pub const WORDS: usize = 2 * (DIGITS * (WINDOWS - 1) + LAST_DIGITS);

@@ -1,28 +1,13 @@
 // Writes the table of points, computed from G alone, an entry a line: window, digit, x, y.
 ghost use mathlib.Core.Path.{_≡_};
 ghost use Prim.Native.Nat.{_<_};
-ghost use Rattle.circle.specs.Point.{pointOf};
-ghost use Rattle.circle.specs.Table.{windows, InTable, entry, tableWords};
+ghost use Rattle.circle.specs.Table.{windows, tableWords};
 use circle::point::CirclePoint;
 use circle::point_table;
-use circle::point_table::DIGITS;
 use circle::point_table::WINDOWS;
 use circle::point_table::WORDS;
-use fields::m31::M31;
+use circle::point_table::inner::entry;
 use libc::STDOUT_FILENO;
-
-// The point of a digit of a window.
-fn entry(table: &[u32; WORDS], window: usize, digit: usize) -> CirclePoint
-    requires { ⌜ (now table ≡ tableWords) × InTable window digit ⌝ }
-    ensures { λ r. ⌜ pointOf r ≡ entry window digit ⌝ }
-{
-    let place = DIGITS * window + digit;
-    let word = 2 * place;
-    CirclePoint {
-        x: M31(table[word]),
-        y: M31(table[word + 1]),
-    }
-}
 
 // A number and the byte after it; whether they were written.
 fn print_number(n: u64, after: &[u8]) -> bool {

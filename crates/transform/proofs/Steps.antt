@@ -13,7 +13,7 @@ use Rattle.fields.specs.Words.{words31}
 use Rattle.fields.specs.Inverse.{m31-representation}
 use Rattle.circle.specs.Index.{indexPoint}
 use Rattle.circle.specs.Table.{pointAt}
-use Rattle.transform.specs.Tree.{Points, Extended, Stepped}
+use Rattle.transform.specs.Tree.{Points, LastLevel, Extended, Stepped}
 use Rattle.transform.specs.Twiddles.{even-or-odd}
 use Rattle.transform.proofs.Pairs.{written, written-first, written-second}
 use Rattle.transform.proofs.Filling.{first-point, points-next}
@@ -44,7 +44,7 @@ first-step s step level lo hi x y = record {
     only : (c : ℕ) → c ≡ 0 → (getD level (2 * c) 0 < P) × (getD level (2 * c + 1) 0 < P)
     only c e = rw e (x, y)
 
-module _ (s count : ℕ) (step twice : ℕ × ℕ) (level middle exit : List ℕ) (lo : 2 ≤ s) (hi : s ≤ 28) (two : count ≡ 2 ^ (s - 2)) where
+module _ (s count : ℕ) (lo : 2 ≤ s) (two : count ≡ 2 ^ (s - 2)) where
   pub half-points : 2 * count ≡ 2 ^ (s - 1)
   half-points =
       let bits : s - 1 ≡ suc (s - 2) = omega arith in
@@ -55,9 +55,9 @@ module _ (s count : ℕ) (step twice : ℕ × ℕ) (level middle exit : List ℕ
       let bits : s ≡ suc (s - 1) = omega arith in
       omega (arith, half-points, ap (λ (t : ℕ). 2 ^ t) bits ∙ N.pow-succ' 2 (s - 1))
 
-  pub next-step : twice ≡ indexPoint (2 ^ (31 - s)) → Stepped (s - 1) twice level middle → Extended count step middle exit
-      → Stepped s step level exit
-  next-step e t x = record {
+  pub next-step : (step twice : ℕ × ℕ) (level middle exit : List ℕ) → s ≤ 28 → twice ≡ indexPoint (2 ^ (31 - s))
+      → Stepped (s - 1) twice level middle → Extended count step middle exit → Stepped s step level exit
+  next-step step twice level middle exit hi e t x = record {
     below = λ j h. by-points (λ j. getD exit j 0 < P) (2 * count)
         (λ c l. elim (decLt c count) [ yes b ↦ kept c b | no g ↦ added c (c - count) (omega arith) (omega arith) ]) j
         (omega (arith, all-points));
@@ -92,25 +92,26 @@ module _ (s count : ℕ) (step twice : ℕ × ℕ) (level middle exit : List ℕ
 
 -- ---- the whole level, from its first point (x, y) of index 2^(30 - n)
 
-module _ (n x y : ℕ) (level : List ℕ) (lo : 3 ≤ n) (hi : n ≤ 30) (size : 4 * length level ≡ 2 ^ n) where
+module _ (n : ℕ) (level : List ℕ) (l : LastLevel n level) where
   pub level-room : 2 ^ (n - 2) ≡ length level
   level-room =
-      let bits : n ≡ 2 + (n - 2) = omega arith in
-      omega (arith, ap (λ (t : ℕ). 2 ^ t) bits ∙ W.pow-add 2 2 (n - 2))
+      let bits : n ≡ 2 + (n - 2) = omega (arith, l .least) in
+      omega (arith, l .size, ap (λ (t : ℕ). 2 ^ t) bits ∙ W.pow-add 2 2 (n - 2))
 
   pub two-words : 2 ≤ length level
-  two-words = omega (arith, level-room, W.pow-mono {i = 1} {j = n - 2} (omega arith))
+  two-words = omega (arith, level-room, W.pow-mono {i = 1} {j = n - 2} (omega (arith, l .least)))
 
-  pub first-x : getD (written level 0 x y) 0 0 ≡ x
-  first-x = written-first level 0 x y (omega (arith, two-words))
+  pub first-x : (x y : ℕ) → getD (written level 0 x y) 0 0 ≡ x
+  first-x x y = written-first level 0 x y (omega (arith, two-words))
 
-  pub first-y : getD (written level 0 x y) 1 0 ≡ y
-  first-y = written-second level 0 x y (omega (arith, two-words))
+  pub first-y : (x y : ℕ) → getD (written level 0 x y) 1 0 ≡ y
+  first-y x y = written-second level 0 x y (omega (arith, two-words))
 
-  pub level-filled : (step : ℕ × ℕ) (exit : List ℕ) → (x, y) ≡ indexPoint (2 ^ (30 - n)) → step ≡ indexPoint (2 ^ (32 - n))
+  pub level-filled : (x y : ℕ) (step : ℕ × ℕ) (exit : List ℕ) → (x, y) ≡ indexPoint (2 ^ (30 - n)) → step ≡ indexPoint (2 ^ (32 - n))
       → Stepped (n - 2) step (written level 0 x y) exit → Points n (2 ^ (n - 3)) exit
-  level-filled step exit e f t =
-      let bit : 32 - n ≡ 30 - (n - 2) = omega arith in
+  level-filled x y step exit e f t =
+      let bit : 32 - n ≡ 30 - (n - 2) = omega (arith, l .least, l .most) in
       let fewer : n - 2 - 1 ≡ n - 3 = omega arith in
       subst (λ (k : ℕ). Points n (2 ^ k) exit) fewer
-      (t .points n (omega arith) hi (f ∙ ap (λ (k : ℕ). indexPoint (2 ^ k)) bit) (first-point n x y level (omega (arith, two-words)) e))
+      (t .points n (omega (arith, l .least)) (l .most) (f ∙ ap (λ (k : ℕ). indexPoint (2 ^ k)) bit)
+      (first-point n x y level (omega (arith, two-words)) e))

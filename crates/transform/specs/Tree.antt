@@ -9,7 +9,9 @@ use Rattle.algebra.specs.M31.{P}
 use Rattle.algebra.specs.Circle.{plus, doubleX}
 use Rattle.fields.specs.Words.{mulP, negP, words31}
 use Rattle.circle.specs.Index.{indexPoint}
-use Rattle.circle.specs.Table.{pointAt}
+use Rattle.circle.specs.Point.{Reduced}
+use Rattle.circle.specs.Table.{pointAt, tableWords}
+use Rattle.circle.specs.declared.point.CirclePoint.{CirclePoint}
 use Rattle.domains.specs.BitReversed.{halfPoint}
 use Rattle.column.specs.Butterflies.{evaluateBlock, interpolateBlock, scaled}
 use Rattle.transform.specs.Transform.{Coefficients}
@@ -75,10 +77,26 @@ pub record InvertedTree (tree exit : List ℕ) : Type 0 where
 pub record Points (n count : ℕ) (level : List ℕ) : Type 0 where
   pub each : (c : ℕ) → c < count → pointAt level c ≡ halfPoint n (4 * c)
 
+-- the last level of the tree of log size n, to be filled with those points
+pub record LastLevel (n : ℕ) (level : List ℕ) : Type 0 where
+  pub least : 3 ≤ n
+  pub most : n ≤ 30
+  pub size : 4 * length level ≡ 2 ^ n
+
 -- so many points more, each a step further than the one so many before it
 pub record Extended (count : ℕ) (step : ℕ × ℕ) (level exit : List ℕ) : Type 0 where
   pub kept : (c : ℕ) → c < count → pointAt exit c ≡ pointAt level c
   pub added : (c : ℕ) → c < count → pointAt exit (count + c) ≡ plus words31 (pointAt level c) step
+
+-- what adding the steps up to bit s asks: room, a first point, the step of bit s, and the table, which has the others
+pub record Stepping (s : ℕ) (step : CirclePoint) (level table : List ℕ) : Type 0 where
+  pub least : 1 ≤ s
+  pub most : s ≤ 28
+  pub room : 2 ^ s ≤ length level
+  pub first-x : getD level 0 0 < P
+  pub first-y : getD level 1 0 < P
+  pub reduced : Reduced step
+  pub is-table : table ≡ tableWords
 
 -- the points that the steps up to bit s give, from the first one on; step is that of bit s
 pub record Stepped (s : ℕ) (step : ℕ × ℕ) (level exit : List ℕ) : Type 0 where

@@ -9,7 +9,8 @@ ghost use Rattle.column.specs.Blocks.{blocks};
 ghost use Rattle.transform.specs.Transform.{valuesOf, Column};
 ghost use Rattle.transform.specs.Tree.{Words, PartlyReduced, reducedWords, nodeTwiddle, pairTwiddle, evaluateEight, Block};
 use crate::twiddles;
-use circle::index::inner::powers::power_point;
+use circle::point_table::constant::points;
+use circle::point_table::inner::power_point;
 use fields::log_size::inner::two_to;
 use fields::m31::P;
 use fields::m31::inner::add;
@@ -175,7 +176,8 @@ fn evaluate_four(column: &mut [u32])
     requires { ⌜ Column 2 (now column) ⌝ }
     ensures { λ _. ⌜ now (column .exit) ≡ valuesOf 2 (now (column .entry)) ⌝ }
 {
-    let p = power_point(28);
+    let table = points();
+    let p = power_point(&table, 28);
     let x = p.x.0;
     four_negated(column, x, x);
 }

@@ -10,7 +10,8 @@ ghost use Rattle.transform.specs.Transform.{Column, Coefficients};
 ghost use Rattle.transform.specs.Tree.{Words, PartlyReduced, reducedWords, nodeTwiddle};
 ghost use Rattle.transform.specs.Tree.{pairTwiddle, interpolateEight, Block, Unscaled};
 use crate::twiddles;
-use circle::index::inner::powers::power_point;
+use circle::point_table::constant::points;
+use circle::point_table::inner::power_point;
 use fields::log_size::inner::two_to;
 use fields::m31::P;
 use fields::m31::inner::add;
@@ -219,7 +220,8 @@ fn interpolate_four(column: &mut [u32])
     requires { ⌜ Column 2 (now column) ⌝ }
     ensures { λ _. ⌜ Unscaled 2 (now (column .entry)) (now (column .exit)) ⌝ }
 {
-    let p = power_point(28);
+    let table = points();
+    let p = power_point(&table, 28);
     let x = p.x.0;
     let inverse = add(x, x);
     four_negated(column, inverse, inverse);

@@ -8,10 +8,12 @@ ghost use Rattle.algebra.specs.Circle.{plus};
 ghost use Rattle.fields.specs.Words.{mulP, words31};
 ghost use Rattle.circle.specs.Point.{pointOf, Reduced};
 ghost use Rattle.transform.specs.Tree.{Words, LinesFrom, LineTree, beside, Invertible};
-ghost use Rattle.transform.specs.Tree.{InvertedTree, Points, Extended, Stepped, Doubled};
-use circle::index::inner::powers::power_point;
+ghost use Rattle.transform.specs.Tree.{InvertedTree, Points, LastLevel, Extended, Stepping, Stepped, Doubled};
 use circle::point::CirclePoint;
 use circle::point::inner as point;
+use circle::point_table::WORDS;
+use circle::point_table::constant::points;
+use circle::point_table::inner::power_point;
 use fields::log_size::inner::two_to;
 use fields::m31::M31;
 use fields::m31::inner as m31;
@@ -53,28 +55,29 @@ fn add_points(level: &mut [u32], count: usize, step: CirclePoint)
 }
 
 // The first 2^(s - 1) points: with every bit of c one more power of G is added, with bit s the step.
-fn add_steps(level: &mut [u32], s: u32, step: CirclePoint)
-    requires { ⌜ (1 ≤ s) × (s ≤ 28) × (2 ^ s ≤ length (now level)) × (getD (now level) 0 0 < P) × (getD (now level) 1 0 < P)
-        × Reduced step ⌝ }
+fn add_steps(level: &mut [u32], table: &[u32; WORDS], s: u32, step: CirclePoint)
+    requires { ⌜ Stepping s step (now level) (now table) ⌝ }
     ensures { λ _. ⌜ Stepped s (pointOf step) (now (level .entry)) (now (level .exit)) ⌝ }
 {
     if s < 2 {
         return;
     }
-    add_steps(level, s - 1, power_point(31 - s));
+    add_steps(level, table, s - 1, power_point(table, 31 - s));
     let count = two_to(s - 2) as usize;
     add_points(level, count, step);
 }
 
 // The last level: point c has its x at word 2c and its y at word 2c + 1.
 fn fill_points(level: &mut [u32], log_size: u32)
-    requires { ⌜ (3 ≤ «log_size») × («log_size» ≤ 30) × (4 * length (now level) ≡ 2 ^ «log_size») ⌝ }
+    requires { ⌜ LastLevel «log_size» (now level) ⌝ }
     ensures { λ _. ⌜ Points «log_size» (2 ^ («log_size» - 3)) (now (level .exit)) ⌝ }
 {
-    let start = power_point(30 - log_size);
+    let table = points();
+    let start = power_point(&table, 30 - log_size);
     level[0] = start.x.0;
     level[1] = start.y.0;
-    add_steps(level, log_size - 2, power_point(32 - log_size));
+    let step = power_point(&table, 32 - log_size);
+    add_steps(level, &table, log_size - 2, step);
 }
 
 // The nodes first, .., 2 first - 1 from their children.

@@ -3,6 +3,7 @@
 //! The lists are statics, which are compiled here. The rows of a constant would be compiled in the program that uses it,
 //! without inlining what they call, and a call takes longer than some of the work.
 
+mod index_rows;
 mod measure;
 mod rows;
 mod transform;

@@ -1,15 +1,16 @@
 //! What is measured.
 
+use crate::index_rows;
 use crate::measure::{best, Row};
-use common::element::{elements, point, point_words, words_of, Element};
+use common::element::{elements, point, words_of, Element};
 use common::library::{
-    tari_bit_reverse, tari_bit_reverse_coset_to_circle_domain_order, tari_index_to_point,
-    tari_m31_batch_inverse_in_place, tari_point_add, tari_point_repeated_double, tari_point_reply,
-    tari_qm31_batch_inverse_in_place, tari_qm31_mul, tari_secure_point_add, tari_write_reply,
+    tari_bit_reverse, tari_bit_reverse_coset_to_circle_domain_order, tari_m31_batch_inverse_in_place, tari_point_add,
+    tari_point_repeated_double, tari_point_reply, tari_qm31_batch_inverse_in_place, tari_qm31_mul,
+    tari_secure_point_add, tari_write_reply,
 };
 use common::random::Random;
 use std::hint::black_box;
-use stwo::core::circle::{CirclePoint, CirclePointIndex};
+use stwo::core::circle::CirclePoint;
 use stwo::core::fields::batch_inverse_in_place;
 use stwo::core::fields::m31::{M31, P};
 use stwo::core::fields::qm31::QM31;
@@ -22,7 +23,10 @@ pub static ROWS: &[fn() -> Row] = &[
     || chain("point_add, a chain of 2^16 sums", 1 << 16, 2, point, called_add, point_add),
     || chain("secure_point_add, a chain of 2^16 sums", 1 << 16, 8, point, |x, y| x + y, secure_point_add),
     || doublings("point_repeated_double, 2^16 sums", 1 << 16),
-    || to_point("index_to_point, 2^16 indices", 1 << 16),
+    || index_rows::to_point("index_to_point, 2^16 indices", 1 << 16),
+    || index_rows::coset_at("coset_at, 2^16 cosets", 1 << 16),
+    || index_rows::coset_shift("coset_shift, 2^16 cosets", 1 << 16),
+    || index_rows::coset_conjugate("coset_conjugate, 2^16 cosets", 1 << 16),
     || permutation("bit_reverse, 2^20 words", 1 << 20, bit_reverse, tari_bit_reverse),
     || {
         let what = "bit_reverse_coset_to_circle_domain_order, 2^20 words";
@@ -33,9 +37,6 @@ pub static ROWS: &[fn() -> Row] = &[
 
 /// The library may take a tenth longer than the Rust.
 const LIMIT: f64 = 1.10;
-
-/// The library has a table where the Rust doubles and adds.
-const TABLE_LIMIT: f64 = 0.50;
 
 type BatchInverse = unsafe extern "C" fn(*const u32, u64, *mut u32, u64) -> tari_write_reply;
 
@@ -135,30 +136,6 @@ fn secure_point_add(a: CirclePoint<QM31>, b: CirclePoint<QM31>) -> CirclePoint<Q
 
 fn words(x: QM31) -> [u32; 4] {
     x.to_m31_array().map(|word| word.0)
-}
-
-/// The points of indices below 2^31.
-fn to_point(what: &'static str, n: usize) -> Row {
-    let mut random = Random::new(1, what);
-    let indices: Vec<u64> = (0..n).map(|_| random.below(1 << 31)).collect();
-    let mut rust_points = vec![CirclePoint::<M31>::zero(); n];
-    let mut points = vec![[0; 2]; n];
-    let (rust, library) = best(
-        n,
-        || {
-            for (index, point) in black_box(&indices).iter().zip(black_box(&mut rust_points)) {
-                *point = CirclePointIndex(*index as usize).to_point();
-            }
-        },
-        || {
-            for (index, point) in black_box(&indices).iter().zip(black_box(&mut points)) {
-                let reply = tari_index_to_point(*index);
-                *point = [reply.x, reply.y];
-            }
-        },
-    );
-    let equal = rust_points.iter().flat_map(point_words).eq(points.concat());
-    Row { what, rust, library, limit: TABLE_LIMIT, equal }
 }
 
 type Permutation = unsafe extern "C" fn(*mut u32, u64) -> tari_write_reply;

@@ -1,15 +1,17 @@
 // Point indices that are known to be in range: what the layers above compute with. These are no public calls.
 ghost use mathlib.Core.Path.{_≡_};
-ghost use Prim.Native.Nat.{_+_, _-_, _*_, _%_, _^_, _≤_};
+ghost use Prim.Native.Nat.{_+_, _-_, _*_, _%_, _^_, _≤_, _<_};
 ghost use Rattle.circle.specs.Point.{pointOf, Reduced};
 ghost use Rattle.circle.specs.Index.{IsIndex, isIndex, indexPoint, subgroupGen, negIndex};
 use crate::index::CirclePointIndex;
 use crate::point::CirclePoint;
 use crate::point::M31_CIRCLE_LOG_ORDER;
+use crate::point::inner as point;
+use crate::point_table::DIGITS;
+use crate::point_table::WINDOWS;
+use crate::point_table::constant::points;
+use crate::point_table::inner::entry;
 use fields::log_size::inner::two_to;
-
-pub mod powers;
-mod table;
 
 // the order of G, 2^31
 const ORDER: u64 = 2147483648;
@@ -85,9 +87,26 @@ pub fn mul(k: CirclePointIndex, count: u64) -> CirclePointIndex
     modulo_order(wrapping_mul(k.0, count))
 }
 
+// The point of an index below 2^31: the sum of the points of its digits.
+fn look_up(k: CirclePointIndex) -> CirclePoint
+    requires { ⌜ k .0 < 2 ^ 31 ⌝ }
+    ensures { λ r. ⌜ (pointOf r ≡ indexPoint (k .0)) × Reduced r ⌝ }
+{
+    let table = points();
+    let mut sum = CirclePoint::zero();
+    let mut rest = k.0 as usize;
+    let mut window: usize = 0;
+    while window < WINDOWS {
+        sum = point::add(sum, entry(&table, window, rest % DIGITS));
+        rest = rest / DIGITS;
+        window += 1;
+    }
+    sum
+}
+
 pub fn to_point(k: CirclePointIndex) -> CirclePoint
     requires { ⌜ IsIndex k ⌝ }
     ensures { λ r. ⌜ (pointOf r ≡ indexPoint (k .0)) × Reduced r ⌝ }
 {
-    table::look_up(reduce(k))
+    look_up(reduce(k))
 }

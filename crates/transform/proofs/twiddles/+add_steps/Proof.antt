@@ -9,21 +9,21 @@ use borrow.Fn.PlainCycle.{Measures, is, falls, and}
 use Rattle.transform.proofs.twiddles.add_steps.Reads as add-steps
 use Rattle.transform.proofs.twiddles.add_steps.Kinds as add-steps-kinds
 use Rattle.transform.proofs.twiddles.+add_steps.Lts-add_steps as add-steps-lts
-use Rattle.circle.proofs.index.inner.powers.power_point.Reads as power-point-reads
+use Rattle.circle.proofs.point_table.inner.power_point.Reads as power-point-reads
 use Rattle.fields.proofs.log_size.inner.two_to.Reads as two-to-reads
 use Rattle.transform.proofs.twiddles.add_points.Reads as add-points-reads
 use Rattle.transform.proofs.twiddles.+add_steps.{statement}
 use Rattle.transform.proofs.twiddles.+add_steps.Tie.{close}
 
-abbrev μ-add-steps : Measures 1 add-steps-kinds.ps ℕ
-μ-add-steps κs a = a .1 .0
+abbrev μ-add-steps : Measures 2 add-steps-kinds.ps ℕ
+μ-add-steps κs a = a .1 .1 .0
 
-abbrev add-steps-at : ℕ → In 1 add-steps-kinds.ps
-add-steps-at t = and 1 add-steps-kinds.ps (is 1 add-steps-kinds.ps μ-add-steps t) add-steps.Pre
+abbrev add-steps-at : ℕ → In 2 add-steps-kinds.ps
+add-steps-at t = and 2 add-steps-kinds.ps (is 2 add-steps-kinds.ps μ-add-steps t) add-steps.Pre
 
-abbrev add-steps-below : ℕ → In 1 add-steps-kinds.ps
+abbrev add-steps-below : ℕ → In 2 add-steps-kinds.ps
 add-steps-below t =
-    and 1 add-steps-kinds.ps (falls 1 add-steps-kinds.ps _<_ μ-add-steps t) add-steps.Pre
+    and 2 add-steps-kinds.ps (falls 2 add-steps-kinds.ps _<_ μ-add-steps t) add-steps.Pre
 
 add-steps-returns : (t : ℕ) → add-steps-lts.Need-returns (
   power-point-reads.Asked,
@@ -37,7 +37,8 @@ add-steps-returns : (t : ℕ) → add-steps-lts.Need-returns (
 ) (add-steps-at t) add-steps.Post
 add-steps-returns t c =
     let s = c .before .before in
-    first-step (s .args .s) (pointOf (s .args .step)) (s .args .level .now) (s .pre .1 .0) (c .if1 .taken) (s .pre .1 .3) (s .pre .1 .4)
+    first-step (s .args .s) (pointOf (s .args .step)) (s .args .level .now) (s .pre .1 .least) (c .if1 .taken)
+    (s .pre .1 .first-x) (s .pre .1 .first-y)
 
 add-steps-sub-add-steps : (t : ℕ) → add-steps-lts.Need-sub-add-steps (
   power-point-reads.Asked,
@@ -88,14 +89,15 @@ add-steps-add-steps-requires : (t : ℕ) → add-steps-lts.Need-add-steps-requir
 add-steps-add-steps-requires t c κs =
     let s = c .before .before .before .before in (
       omega arith,
-      (
-        omega arith,
-        omega arith,
-        omega (arith, s .pre .1 .2, W.pow-mono {i = s .args .s - 1} {j = s .args .s} (omega arith)),
-        s .pre .1 .3,
-        s .pre .1 .4,
-        c .power-point .ensures .1,
-      ),
+      record {
+        least = omega arith;
+        most = omega (arith, s .pre .1 .most);
+        room = omega (arith, s .pre .1 .room, W.pow-mono {i = s .args .s - 1} {j = s .args .s} (omega arith));
+        first-x = s .pre .1 .first-x;
+        first-y = s .pre .1 .first-y;
+        reduced = c .power-point .ensures .1;
+        is-table = s .pre .1 .is-table;
+      },
     )
 
 add-steps-two-to-requires : (t : ℕ) → add-steps-lts.Need-two-to-requires (
@@ -125,9 +127,12 @@ add-steps-add-points-requires t c κs =
     let power = c .before .two-to in
     let middle = c .before .before .before .before .add-steps in
     let lo : 2 ≤ s .args .s = omega arith in
-    let all = all-points (s .args .s) (power .result) (pointOf (s .args .step)) (pointOf (s .args .step)) (s .args .level .now) (s .args .level .now) (s .args .level .now) lo (s .pre .1 .1) (power .ensures) in
-    let half = half-points (s .args .s) (power .result) (pointOf (s .args .step)) (pointOf (s .args .step)) (s .args .level .now) (s .args .level .now) (s .args .level .now) lo (s .pre .1 .1) (power .ensures) in
-    (omega (arith, all, middle .kept .0, s .pre .1 .2), λ j h. middle .ensures .below j (omega (arith, half)), s .pre .1 .5)
+    let all = all-points (s .args .s) (power .result) lo (power .ensures) in
+    let half = half-points (s .args .s) (power .result) lo (power .ensures) in (
+      omega (arith, all, middle .kept .0, s .pre .1 .room),
+      λ j h. middle .ensures .below j (omega (arith, half)),
+      s .pre .1 .reduced,
+    )
 
 add-steps-same-length : (t : ℕ) → add-steps-lts.Need-same-length (
   power-point-reads.Asked,
@@ -157,8 +162,10 @@ add-steps-returns-2 t c =
     let middle = c .before .before .before .before .before .before .before .add-steps in
     let twice = c .before .before .before .before .before .before .before .before .power-point in
     let points = c .before .before .add-points in
-    next-step (s .args .s) (power .result) (pointOf (s .args .step)) (pointOf (twice .result)) (s .args .level .now) (middle .last .0) (points .last .0) (omega arith) (s .pre .1 .1)
-    (power .ensures) (twice .ensures .0) (middle .ensures) (points .ensures)
+    let more = c .before .before .before .before .before .before .before .before .before .before .if1 in
+    let lo : 2 ≤ s .args .s = omega (arith, more .left) in
+    next-step (s .args .s) (power .result) lo (power .ensures) (pointOf (s .args .step)) (pointOf (twice .result))
+    (s .args .level .now) (middle .last .0) (points .last .0) (s .pre .1 .most) (twice .ensures .0) (middle .ensures) (points .ensures)
 
 pub +add-steps-spec : {M : Type 1} → statement M
 +add-steps-spec = close μ-add-steps λ t. add-steps-lts.spec (

@@ -22,7 +22,7 @@ part-fill-points-end c = search needs
 fill-points-requires : tie.Need-fill-points-requires
 fill-points-requires c κs =
     let a = c .before .before in
-    (a .pre .0, a .pre .1, level-size (a .args .log-size) (a .args .tree .now) (a .pre))
+    record { least = a .pre .0; most = a .pre .1; size = level-size (a .args .log-size) (a .args .tree .now) (a .pre) }
 
 double-levels-requires : tie.Need-double-levels-requires
 double-levels-requires c κs =
@@ -41,7 +41,8 @@ slice-read-tree c =
     let d = c .before .before .before in
     let l = d .before .before .before .before .fill-points in
     let a = d .before .before .before .before .before .before .before in
-    some-nodes (a .args .log-size) (a .args .tree .now) (a .pre) (l .last .0) (l .kept .0) (d .double-levels .last .0) (d .double-levels .kept .0)
+    some-nodes (a .args .log-size) (a .args .tree .now) (a .pre) (l .last .0) (l .kept .0)
+    (d .double-levels .last .0) (d .double-levels .kept .0)
 
 slice-write-tree : tie.Need-slice-write-tree
 slice-write-tree c = let more = slice-read-tree c in omega arith

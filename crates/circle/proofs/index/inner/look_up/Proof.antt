@@ -8,15 +8,18 @@ use Rattle.circle.specs.Table.{windows, digits}
 use Rattle.circle.specs.declared.point.CirclePoint.{CirclePoint}
 use Rattle.circle.proofs.Digits.{sum-start, rest-start, rest-next, sum-next, sum-end, digit-in-table}
 use borrow.Author.Needs.{needs}
-use Rattle.circle.proofs.index.inner.table.look_up.Statement.{statement}
-use Rattle.circle.proofs.index.inner.table.look_up.Tie as tie
+use Rattle.circle.proofs.index.inner.look_up.Statement.{statement}
+use Rattle.circle.proofs.index.inner.look_up.Tie as tie
 
 abbrev Inv-loop : tie.InvT-loop
-Inv-loop sum₀ rest₀ window₀ sum rest window = (Reduced sum) × (window ≤ windows) × (rest ≡ rest₀ / digits ^ window) ×
+Inv-loop table sum₀ rest₀ window₀ sum rest window = (Reduced sum) × (window ≤ windows) × (rest ≡ rest₀ / digits ^ window) ×
     (pointOf sum ≡ indexPoint (rest₀ % digits ^ window))
 
 abbrev μ-loop : tie.MeasureT-loop
-μ-loop sum₀ rest₀ window₀ sum rest window = windows - window
+μ-loop table sum₀ rest₀ window₀ sum rest window = windows - window
+
+points-requires : tie.Need-points-requires Inv-loop μ-loop
+points-requires c κs = search needs
 
 zero-requires : tie.Need-zero-requires Inv-loop μ-loop
 zero-requires c κs = search needs
@@ -26,18 +29,19 @@ loop-holds c =
     let zero = c .zero .ensures in (
       subst (λ (p : CirclePoint). Reduced p) (sym zero) (lit< tt, lit< tt),
       omega arith,
-      rest-start (c .before .args .k .0),
-      ap (λ (p : CirclePoint). pointOf p) zero ∙ sum-start (c .before .args .k .0),
+      rest-start (c .before .before .args .k .0),
+      ap (λ (p : CirclePoint). pointOf p) zero ∙ sum-start (c .before .before .args .k .0),
     )
 
 entry-requires : tie.Need-entry-requires Inv-loop μ-loop
 entry-requires c κs =
-    let at = c .before .loop in
-    let start = c .before .before .before in
-    digit-in-table (start .args .k .0) (at .window) (at .rest) (start .pre) (omega arith) (at .inv .2)
+    let at = c .before .before .loop in
+    let points = c .before .before .before .before .points in
+    let start = c .before .before .before .before .before in
+    (points .ensures, digit-in-table (start .args .k .0) (at .window) (at .rest) (start .pre) (omega arith) (at .inv .2))
 
 add-requires : tie.Need-add-requires Inv-loop μ-loop
-add-requires c κs = (c .before .before .loop .inv .0, c .entry .ensures .1)
+add-requires c κs = (c .before .before .before .loop .inv .0, c .entry .ensures .1)
 
 add-window : tie.Need-add-window Inv-loop μ-loop
 add-window c = omega arith
@@ -47,8 +51,8 @@ loop-less c = omega arith
 
 loop-again : tie.Need-loop-again Inv-loop μ-loop
 loop-again c =
-    let at = c .before .before .before .loop in
-    let k = c .before .before .before .before .before .args .k .0 in (
+    let at = c .before .before .before .before .loop in
+    let k = c .before .before .before .before .before .before .before .args .k .0 in (
       c .add .ensures .1,
       omega arith,
       rest-next k (at .window) (at .rest) (at .inv .2),
@@ -59,7 +63,8 @@ loop-again c =
 returns : tie.Need-returns Inv-loop μ-loop
 returns c =
     let at = c .before .loop in
-    (at .inv .3 ∙ sum-end (c .before .before .before .args .k .0) (at .window) (c .before .before .before .pre) (omega arith), at .inv .0)
+    let start = c .before .before .before .before in
+    (at .inv .3 ∙ sum-end (start .args .k .0) (at .window) (start .pre) (omega arith), at .inv .0)
 
 pub look-up-spec : {M : Type 1} → statement M
 look-up-spec =
@@ -67,6 +72,7 @@ look-up-spec =
     (tie.spec
     Inv-loop
     μ-loop
+    points-requires
     zero-requires
     loop-holds
     entry-requires
