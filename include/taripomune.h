@@ -28,7 +28,7 @@ extern "C" {
 #define TARI_ACCEPTED 0
 /* A log size is outside its range. */
 #define TARI_REFUSED_LOG_SIZE 6
-/* A point index is above 2^31; in coset_index_to_circle_domain_index, alone: the position is outside the coset. */
+/* A point index isn't below 2^31; in coset_index_to_circle_domain_index, alone: the position is outside the coset. */
 #define TARI_REFUSED_INDEX 4
 /* A scalar or an offset is outside its range. */
 #define TARI_REFUSED_SCALAR 11
@@ -89,7 +89,7 @@ typedef struct {
  *
  * Raised with every change of a declaration of the header or of an answer. */
 
-#define TARI_VERSION 1
+#define TARI_VERSION 2
 
 /* TARI_VERSION of the library, to be compared with the header's. Never refuses. */
 tari_u32_reply tari_version(void);
@@ -380,15 +380,16 @@ tari_secure_point_reply tari_secure_point_get_point(uint64_t index_high, uint64_
 
 /* ---- Point indices ----
  *
- * Numbers from 0 to 2^31. The point of index k is G = (2, 1268011823) added k times to zero. */
+ * Numbers below 2^31. The point of index k is G = (2, 1268011823) added k times to zero; no other index has it. */
 
 /* The index 0. Never refuses. */
 tari_index_reply tari_index_zero(void);
 /* The index 1, of G. Never refuses. */
 tari_index_reply tari_index_generator(void);
-/* index modulo 2^31. Refuses 4. */
+/* index modulo 2^31, which is the index itself. Refuses 4. */
 tari_index_reply tari_index_reduce(uint64_t index);
-/* 2^(31 - log_size), the index of a generator of the subgroup of 2^log_size points; 2^31 for log size 0. Refuses 6. */
+/* 2^(31 - log_size) modulo 2^31, the index of a generator of the subgroup of 2^log_size points; 0 for log size 0.
+ * Refuses 6. */
 tari_index_reply tari_index_subgroup_gen(uint32_t log_size);
 /* G added index times to zero. Refuses 4. */
 tari_point_reply tari_index_to_point(uint64_t index);
@@ -468,8 +469,8 @@ tari_coset_reply tari_coset_double(
 tari_coset_reply tari_coset_repeated_double(
     uint64_t initial_index, uint32_t initial_x, uint32_t initial_y, uint64_t step_index, uint32_t step_x,
     uint32_t step_y, uint32_t log_size, uint32_t n_doubles);
-/* 1 where the first coset equals the other, doubled as often as their log sizes differ, in every field, else 0. A
- * step index 2^31, as of log size 0, doesn't equal the 0 that doubling gives. Refuses 6, 4, 1. */
+/* 1 where the first coset equals the other, doubled as often as their log sizes differ, in every field, else 0.
+ * Refuses 6, 4, 1. */
 tari_bool_reply tari_coset_is_doubling_of(
     uint64_t initial_index, uint32_t initial_x, uint32_t initial_y, uint64_t step_index, uint32_t step_x,
     uint32_t step_y, uint32_t log_size, uint64_t other_initial_index, uint32_t other_initial_x,
@@ -576,8 +577,8 @@ tari_point_reply tari_circle_domain_at(
 tari_index_reply tari_circle_domain_index_at(
     uint64_t initial_index, uint32_t initial_x, uint32_t initial_y, uint64_t step_index, uint32_t step_x,
     uint32_t step_y, uint32_t log_size, uint64_t i);
-/* 1 where 4 times the initial index, modulo 2^31, equals the step index, else 0; 0 for the canonic domain of log
- * size 1. Refuses 6, 4, 1. */
+/* 1 where 4 times the initial index, modulo 2^31, equals the step index, else 0. Where the step index is 0, 1 only for
+ * the initial indices 2^29 and 3 times 2^29, whatever the log size. So 1 for every canonic domain. Refuses 6, 4, 1. */
 tari_bool_reply tari_circle_domain_is_canonic(
     uint64_t initial_index, uint32_t initial_x, uint32_t initial_y, uint64_t step_index, uint32_t step_x,
     uint32_t step_y, uint32_t log_size);

@@ -17,7 +17,7 @@ use taripomune_sys::{tari_coset_iterator_reply, tari_coset_reply, tari_coset_ste
 /// assert!(coset.iter_indices().map(|index| index.value() / h).eq([1, 3, 5, 7, 9, 11, 13, 15]));
 /// assert_eq!(coset.at(8), coset.initial());
 /// assert!(Coset::odds(2)?.is_doubling_of(coset));
-/// assert!(!Coset::subgroup(0)?.is_doubling_of(Coset::subgroup(1)?));
+/// assert!(Coset::subgroup(0)?.is_doubling_of(Coset::subgroup(1)?));
 /// assert_eq!(coset.repeated_double(4), Err(Refusal::Doublings));
 /// assert_eq!(Coset::odds(31), Err(Refusal::LogSize));
 /// # Ok::<(), Refusal>(())

@@ -66,7 +66,8 @@ impl CircleDomain {
         accepted(call!(tari_circle_domain_index_at(coset self.half_coset, number i as u64)))
     }
 
-    /// Whether 4 times the initial index, reduced, is the step. For the canonic domain of log size 1 it isn't.
+    /// Whether 4 times the initial index, reduced, is the step; where the step is 0, whether the initial index is 2^29
+    /// or 3 times 2^29. It is true of every canonic domain.
     pub fn is_canonic(&self) -> bool {
         accepted(call!(tari_circle_domain_is_canonic(coset self.half_coset)))
     }

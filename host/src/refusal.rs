@@ -20,7 +20,7 @@ use std::fmt;
 pub enum Refusal {
     /// A log size outside its range.
     LogSize,
-    /// A point index above 2^31, or a coset position outside its coset.
+    /// A point index that isn't below 2^31, or a coset position outside its coset.
     Index,
     /// A scalar or an offset outside its range.
     Scalar,
@@ -75,7 +75,7 @@ impl Refusal {
     pub const fn sentence(self) -> &'static str {
         match self {
             Refusal::LogSize => "a log size is outside its range",
-            Refusal::Index => "a point index is above 2^31, or a position is outside its coset",
+            Refusal::Index => "a point index isn't below 2^31, or a position is outside its coset",
             Refusal::Scalar => "a scalar or an offset is outside its range",
             Refusal::Length => "a column, its destination or scratch has a length that doesn't fit",
             Refusal::Chunk => "a chunk has no elements",

@@ -231,17 +231,18 @@ fn points_are_their_formulas() {
 fn indices_are_numbers_modulo_2_to_the_31() {
     const ORDER: usize = 1 << 31;
     let index = |value: usize| CirclePointIndex::new(value).unwrap();
-    for (a, b) in [(0, 0), (5, 3), (3, 5), (ORDER, 7), (ORDER - 1, ORDER), (123456789, 987654321)] {
+    for (a, b) in [(0, 0), (5, 3), (3, 5), (ORDER - 1, 7), (ORDER / 2, ORDER / 2), (123456789, 987654321)] {
         assert_eq!(index(a) + index(b), index((a + b) % ORDER));
         assert_eq!(index(a) - index(b), index((a + ORDER - b) % ORDER));
         assert_eq!(-index(a), index((ORDER - a) % ORDER));
         assert_eq!(index(a) * b, index((a * b) % ORDER));
-        assert_eq!(index(a).reduce(), index(a % ORDER));
+        assert_eq!((index(a).value(), index(a).reduce()), (a, index(a)));
+        assert_eq!(index(a) * (ORDER + b), index((a * b) % ORDER));
         assert_eq!(index(a / 2 * 2).half(), Ok(index(a / 2)));
         assert_eq!(index(a).to_point(), M31_CIRCLE_GEN.mul(a as u128));
     }
     assert_eq!((CirclePointIndex::zero(), CirclePointIndex::generator()), (index(0), index(1)));
-    assert!((0..=31).all(|n| CirclePointIndex::subgroup_gen(n) == Ok(index(1 << (31 - n)))));
+    assert!((0..=31).all(|n| CirclePointIndex::subgroup_gen(n) == Ok(index((1 << (31 - n)) % ORDER))));
 }
 
 #[test]
@@ -262,7 +263,7 @@ fn cosets_and_domains_are_their_indices() {
     for log_size in [0, 31] {
         let subgroup = Coset::subgroup(log_size).unwrap();
         assert_eq!((subgroup.size(), subgroup.log_size()), (1 << log_size, log_size));
-        assert_eq!(subgroup.index_at(1), index(1 << (31 - log_size)).reduce());
+        assert_eq!(subgroup.index_at(1), index((1 << (31 - log_size)) % (1 << 31)));
         assert_eq!((subgroup.at(1), subgroup.initial()), (subgroup.step(), CirclePoint::zero()));
         assert_eq!(subgroup.iter_indices().len(), subgroup.size());
     }
@@ -289,6 +290,28 @@ fn cosets_and_domains_are_their_indices() {
     let (part, shifts) = domain.split(2).unwrap();
     assert_eq!(part, CircleDomain::new(Coset::new(first, 3).unwrap()));
     assert_eq!(shifts, [0, 1, 2, 3].map(|i| step * i));
+}
+
+#[test]
+fn a_step_of_0_doubles_and_is_canonic_by_its_own_rule() {
+    let index = |value: usize| CirclePointIndex::new(value).unwrap();
+    for log_size in 0..=30 {
+        let [subgroup, larger] = [log_size, log_size + 1].map(|n| Coset::subgroup(n).unwrap());
+        assert!(subgroup.is_doubling_of(larger) && larger.double() == Ok(subgroup));
+    }
+    for log_size in 1..=30 {
+        assert!(CanonicCoset::new(log_size).unwrap().circle_domain().is_canonic());
+    }
+    // Where the step is 0, two of the four indices whose fourfold is 0 are canonic, whatever the log size.
+    for log_size in [0, 1, 31] {
+        let canonic = |quarter: usize| {
+            let initial = index(quarter << 29);
+            let step = CirclePointIndex::zero();
+            let coset = Coset::from_fields(initial, initial.to_point(), step, step.to_point(), log_size);
+            CircleDomain::new(coset.unwrap()).is_canonic()
+        };
+        assert_eq!([0, 1, 2, 3].map(canonic), [false, true, false, true]);
+    }
 }
 
 #[test]

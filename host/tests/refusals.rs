@@ -28,7 +28,7 @@ fn refused_calls() -> Vec<(u32, u64, Refusal)> {
         (3, 0, CM31::one().div_m31(M31::zero()).unwrap_err()),
         (3, 1, batch_inverse(&[QM31::one(), QM31::zero(), QM31::zero()]).unwrap_err()),
         (3, 4, batch_inverse_chunked(&[1, 2, 3, 4, 0].map(M31::from), &mut [one; 5], 2).unwrap_err()),
-        (4, 0, CirclePointIndex::new((1 << 31) + 1).unwrap_err()),
+        (4, 0, CirclePointIndex::new(1 << 31).unwrap_err()),
         (4, 0, coset_index_to_circle_domain_index(8, 3).unwrap_err()),
         (5, 0, index(3).half().unwrap_err()),
         (6, 0, CirclePointIndex::subgroup_gen(32).unwrap_err()),
@@ -84,7 +84,7 @@ fn what_is_just_inside_is_accepted() {
     assert_eq!(M31::from_u32_unchecked(P - 1).map(M31::word), Ok(P - 1));
     assert_eq!(M31::partial_reduce(2 * P - 1).map(M31::word), Ok(P - 1));
     assert_eq!(M31::reduce(P2 - 1).map(M31::word), Ok(P - 1));
-    assert_eq!(index(1 << 31).to_point(), CirclePoint::zero());
+    assert_eq!(index((1 << 31) - 1).to_point(), M31_CIRCLE_GEN.conjugate());
     assert_eq!(Coset::subgroup(31).map(|coset| coset.size()), Ok(1 << 31));
     assert!(Coset::odds(30).is_ok() && Coset::half_odds(29).is_ok() && CanonicCoset::new(30).is_ok());
     assert_eq!(bit_reverse_index(1, 64), Ok(1 << 63));

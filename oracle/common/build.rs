@@ -25,11 +25,13 @@ fn function(prototype: &Prototype, header: &Header) -> String {
     let taken: String = parameters.iter().map(|parameter| taken(parameter, parameters)).collect();
     let exits: String = parameters.iter().map(exit).collect();
     let fields = &header.reply_of(prototype).fields[2..];
+    let indices: Vec<usize> = (0..fields.len()).filter(|place| is_index(&fields[*place].name)).collect();
     let values: Vec<String> = fields.iter().map(|f| format!("reply.{} as u64", f.name)).collect();
     format!(
         "Function {{
             name: \"{name}\",
             parameters: &[{declared}],
+            indices: &{indices:?},
             call: |args| {{
                 {taken}
                 let reply = {call};
@@ -47,6 +49,11 @@ fn function(prototype: &Prototype, header: &Header) -> String {
         values = values.join(", "),
         zeros = fields.len(),
     )
+}
+
+/// Whether a value of this name is a point index: an index, or the current one or the step of an iterator.
+fn is_index(name: &str) -> bool {
+    name.rsplit('_').next().is_some_and(|last| ["index", "cur", "step"].contains(&last))
 }
 
 /// Only a function that takes a slice is declared `unsafe`.

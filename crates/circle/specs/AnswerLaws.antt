@@ -2,7 +2,7 @@
 use mathlib.Core.Path.{_≡_, refl, sym, _∙_, ap}
 use mathlib.Core.Bool.{Bool, true, false, not, and-eq-true-iff}
 use Prim.Native.Nat.{ℕ, _<_}
-use borrow.Author.Tests.{leb-true, le-leb, not-false}
+use borrow.Author.Tests.{ltb-true, lt-ltb, not-false}
 use Rattle.algebra.specs.M31.{P}
 use Rattle.fields.specs.Words.{quarticWords}
 use Rattle.fields.specs.CM31.{ofPair}
@@ -67,10 +67,10 @@ pub ruleset securePoints = (x0-below, x1-below, x2-below, x3-below, y0-below, y1
 
 -- indices
 pub index-fits : (k : CirclePointIndex) (u : Bool) → u ≡ isIndex k → not u ≡ false → IsIndex k
-index-fits k u e h = leb-true (k .0) _ (sym e ∙ not-false u h)
+index-fits k u e h = ltb-true (k .0) _ (sym e ∙ not-false u h)
 
 pub index-passes : (k : CirclePointIndex) → IsIndex k → isIndex k ≡ true
-index-passes k h = le-leb (k .0) _ h
+index-passes k h = lt-ltb (k .0) _ h
 
 pub index-value : (k : CirclePointIndex) (j : ℕ) → k .0 ≡ j → IA.Value k ≡ IA.Value (ofIndex j)
 index-value k j e = ap (λ (t : ℕ). IA.Value (ofIndex t)) e

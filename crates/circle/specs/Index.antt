@@ -1,8 +1,8 @@
 -- What each call of point indices answers: the refusals of the table in docs/CALLS.md in its order, then numbers modulo 2^31.
-use Prim.Native.Nat.{ℕ, _+_, _-_, _*_, _/_, _%_, _^_, _≤_}
+use Prim.Native.Nat.{ℕ, _+_, _-_, _*_, _/_, _%_, _^_, _<_}
 use mathlib.Core.Bool.{Bool}
 use mathlib.Core.List.{_++_}
-use lib.Dec.{leb, eqb}
+use lib.Dec.{leb, ltb, eqb}
 use Rattle.algebra.specs.Circle.{multiple}
 use Rattle.fields.specs.Check.{Checks, need, checked}
 use Rattle.fields.specs.Words.{words31}
@@ -18,13 +18,13 @@ use Rattle.circle.specs.declared.index.CirclePointIndexAnswer.the-varian
 abbrev pub ofIndex : ℕ → CirclePointIndex
 ofIndex k = record { 0 = k }
 
--- a point index lies in 0 to 2^31, both ends allowed
+-- a point index is below 2^31
 abbrev pub IsIndex : CirclePointIndex → Type 0
-IsIndex k = k .0 ≤ 2 ^ 31
+IsIndex k = k .0 < 2 ^ 31
 
--- whether a point index lies in 0 to 2^31
+-- whether a point index is below 2^31
 abbrev pub isIndex : CirclePointIndex → Bool
-isIndex k = leb (k .0) (2 ^ 31)
+isIndex k = ltb (k .0) (2 ^ 31)
 
 -- an index in range, else number 4
 abbrev pub inRange : CirclePointIndex → Checks
@@ -34,9 +34,9 @@ inRange k = need (isIndex k) Index
 abbrev pub indexPoint : ℕ → ℕ × ℕ
 indexPoint k = multiple words31 k generator
 
--- a generator of the subgroup of 2^n points; 2^31, unreduced, for n = 0
+-- a generator of the subgroup of 2^n points: 2^(31 - n) modulo 2^31, so 0 for n = 0
 abbrev pub subgroupGen : ℕ → ℕ
-subgroupGen n = 2 ^ (31 - n)
+subgroupGen n = 2 ^ (31 - n) % 2 ^ 31
 
 -- the negative of an index
 abbrev pub negIndex : ℕ → ℕ

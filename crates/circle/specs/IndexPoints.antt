@@ -1,4 +1,4 @@
--- Indices and their points: adding indices adds points, and two indices have one point exactly where they agree modulo 2^31.
+-- Indices and their points: adding indices adds points, and two numbers have one point exactly where they agree modulo 2^31.
 use Prim.Native.Nat.{ℕ, _+_, _-_, _*_, _%_, _^_, _≤_, _<_}
 use mathlib.Core.Path.{_≡_, sym, _∙_, ap}
 use mathlib.Core.List.{[], _∷_}
@@ -22,7 +22,8 @@ use Rattle.fields.specs.Representation.{solveWords}
 use Rattle.fields.specs.Inverse.{m31-representation, element-minus-one}
 use Rattle.circle.specs.Formulas.{antipode}
 use Rattle.circle.specs.Point.{generator}
-use Rattle.circle.specs.Index.{indexPoint}
+use Rattle.circle.specs.Index.{ofIndex, IsIndex, indexPoint}
+use Rattle.circle.specs.declared.index.CirclePointIndex.{CirclePointIndex}
 use Rattle.circle.specs.Points.{point-injective, multiple-reduced, multiple-add, multiple-mul}
 
 -- the words of k G stand for k G
@@ -47,6 +48,11 @@ index-equal j k = (
   λ e. G-equal j k .0 (sym (to-index-point j) ∙ ap (onPair element) e ∙ to-index-point k),
   λ e. index-unique (indexPoint j) k (index-below j) (to-index-point j ∙ G-equal j k .1 e),
 )
+
+-- no two indices have the same point
+pub same-point-same-index : (j k : CirclePointIndex) → IsIndex j → IsIndex k → indexPoint (j .0) ≡ indexPoint (k .0) → j ≡ k
+same-point-same-index j k h l e =
+    ap ofIndex (sym (N.mod-eq-of-lt h) ∙ index-equal (j .0) (k .0) .0 e ∙ N.mod-eq-of-lt l)
 
 pub index-reduce : (k : ℕ) → indexPoint (k % 2 ^ 31) ≡ indexPoint k
 index-reduce k = index-equal (k % 2 ^ 31) k .1 (mod-mod k)

@@ -8,7 +8,7 @@ use fields::refusal::Refusal;
 
 pub mod inner;
 
-// from 0 to 2^31; 0 and 2^31 have the same point
+// below 2^31, the order of G: no two indices have the same point
 pub struct CirclePointIndex(pub u64);
 
 pub enum CirclePointIndexAnswer {
@@ -38,7 +38,7 @@ impl CirclePointIndex {
         CirclePointIndexAnswer::Value(inner::reduce(self))
     }
 
-    // 2^31 for log size 0: not reduced.
+    // 2^(31 - log_size); 0 for log size 0, since an index is below 2^31.
     pub fn subgroup_gen(log_size: u32) -> CirclePointIndexAnswer
         ensures { λ r. ⌜ r ≡ subgroupGenAnswer «log_size» ⌝ }
     {

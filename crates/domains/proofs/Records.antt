@@ -1,33 +1,30 @@
 -- How a need is closed where the answer goes by the checks of a record, or is a record.
-use Prim.Native.Nat.{ℕ, _-_, _%_, _^_, _≤_, _<_}
-use mathlib.Core.Path.{_≡_, refl, sym, _∙_, ap}
-use mathlib.Core.Bool.{Bool, true, false, cond, not, _&&_}
-use mathlib.Core.List.{_++_}
+use Prim.Native.Nat.{ℕ, _-_, _^_, _≤_, _<_}
+use mathlib.Core.Path.{_≡_, sym, _∙_, ap}
+use mathlib.Core.Bool.{Bool, false, not, _&&_}
 use native.Mathlib.Omega.{arith}
-use lib.Dec.{ltb}
-use borrow.Author.Tests.{leb-true, not-false}
-use Rattle.fields.specs.Check.{Checks, need, checked, outcome}
+use borrow.Author.Tests.{not-false}
+use Rattle.fields.specs.Check.{Checks, checked, outcome}
 use Rattle.fields.specs.CheckLaws.{Hold, hold-split, passed-hold, at-passed}
 use Rattle.fields.specs.LogSize.{isLogSize}
 use Rattle.fields.specs.LogSizeLaws.{log-size-fits}
 use Rattle.fields.specs.declared.check.Check.{Check}
 use Rattle.fields.specs.declared.check.Check.the-variants.{Passed}
 use Rattle.fields.specs.declared.refusal.Refusal.{Refusal}
-use Rattle.fields.specs.declared.refusal.Refusal.the-variants.{LogSize}
-use Rattle.circle.specs.Point.{Reduced, reduced, pointOf, ofPoint}
-use Rattle.circle.specs.Point as P
-use Rattle.circle.specs.Index.{ofIndex, IsIndex, inRange, negIndex, subgroupGen}
-use Rattle.circle.specs.AnswerLaws.{x-below, y-below, index-fits}
+use Rattle.circle.specs.Point.{pointOf, ofPoint}
+use Rattle.circle.specs.Index.{ofIndex, IsIndex, negIndex, subgroupGen}
 use Rattle.circle.specs.declared.point.CirclePoint.{CirclePoint}
 use Rattle.circle.specs.declared.index.CirclePointIndex.{CirclePointIndex}
 use Rattle.domains.specs.declared.coset.Coset.{Coset}
 use Rattle.domains.specs.declared.canonic.CanonicCoset.{CanonicCoset}
 use Rattle.domains.specs.declared.canonic.CanonicCosetAnswer.the-variants as CA
 use Rattle.domains.specs.declared.domain.CircleDomainAnswer.the-variants as DA
-use Rattle.domains.specs.Record.{logSize, indices, words, check, checkCanonic, checkTwo, checkWithIndex, Fits, FitsCanonic}
+use Rattle.domains.specs.Record.{check, checkCanonic, checkTwo, checkWithIndex, Fits, FitsCanonic}
 use Rattle.domains.specs.Coset.{indexAt}
 use Rattle.domains.specs.Domain.{ofHalf, domainIndexAt, index-first, index-second}
-use Rattle.domains.specs.CosetLaws.{subgroup-gen-index}
+use Rattle.domains.specs.RecordLaws.{hold-fits, hold-second, hold-with-index, hold-canonic, hold-iterator}
+use Rattle.domains.specs.CosetLaws.{subgroup-gen-index, index-at-index}
+use Rattle.domains.specs.AnswersFit.{domain-index-index}
 use Rattle.domains.specs.Iterator as T
 use Rattle.domains.specs.declared.iterator.CosetIterator.{CosetIterator}
 use Rattle.domains.specs.declared.iterator.CircleDomainIndexIterator.{CircleDomainIndexIterator}
@@ -54,67 +51,19 @@ iterator-passed it A = at-passed (T.check it)
 
 -- ---- what a record has that passes
 
-index-holds : (k : CirclePointIndex) → Hold (inRange k) → IsIndex k
-index-holds k h = index-fits k true (sym (h .0)) refl
-
-point-fits : (p : CirclePoint) → reduced p ≡ true → Reduced p
-point-fits p e = (x-below p true (sym e) refl, y-below p true (sym e) refl)
-
-indices-fit : (c : Coset) → Hold (indices c) → (IsIndex (c .«initial_index»)) × (IsIndex (c .«step_size»))
-indices-fit c h =
-    let both = hold-split (inRange (c .«initial_index»)) (inRange (c .«step_size»)) h in
-    (index-holds (c .«initial_index») (both .0), index-holds (c .«step_size») (both .1))
-
-words-fit : (c : Coset) → Hold (words c) → (Reduced (c .initial)) × (Reduced (c .step))
-words-fit c h =
-    let both = hold-split (P.words (c .initial)) (P.words (c .step)) h in
-    (point-fits (c .initial) (both .0 .0), point-fits (c .step) (both .1 .0))
-
-all-fit : (c : Coset) → c .«log_size» ≤ 31 → Hold (indices c) → Hold (words c) → Fits c
-all-fit c h i w = record {
-  logSizeFits = h;
-  initialIndexFits = indices-fit c i .0;
-  stepSizeFits = indices-fit c i .1;
-  initialReduced = words-fit c w .0;
-  stepReduced = words-fit c w .1;
-}
-
-size-fits : (c : Coset) → Hold (logSize c) → c .«log_size» ≤ 31
-size-fits c h = leb-true (c .«log_size») 31 (h .0)
-
 pub fits : (c : Coset) (r : Check) → r ≡ outcome (check c) → r ≡ Passed → Fits c
-unfolding check
-fits c r e h =
-    let first = hold-split (logSize c) (indices c ++ words c) (passed-hold (logSize c ++ indices c ++ words c) r e h) in
-    let rest = hold-split (indices c) (words c) (first .1) in
-    all-fit c (size-fits c (first .0)) (rest .0) (rest .1)
+fits c r e h = hold-fits c (passed-hold (check c) r e h)
 
 -- the second of two
 pub second-fits : (c d : Coset) (r : Check) → r ≡ outcome (checkTwo c d) → r ≡ Passed → Fits d
-unfolding checkTwo
-second-fits c d r e h =
-    let sizes = hold-split (logSize c ++ logSize d) ((indices c ++ indices d) ++ (words c ++ words d)) (passed-hold (checkTwo c d) r e h) in
-    let rest = hold-split (indices c ++ indices d) (words c ++ words d) (sizes .1) in
-    all-fit d (size-fits d (hold-split (logSize c) (logSize d) (sizes .0) .1)) (hold-split (indices c) (indices d) (rest .0) .1)
-    (hold-split (words c) (words d) (rest .1) .1)
+second-fits c d r e h = hold-second c d (passed-hold (checkTwo c d) r e h)
 
 pub with-index-fits : (c : Coset) (k : CirclePointIndex) (r : Check) → r ≡ outcome (checkWithIndex c k) → r ≡ Passed
     → (Fits c) × (IsIndex k)
-unfolding checkWithIndex
-with-index-fits c k r e h =
-    let size = hold-split (logSize c) (indices c ++ (inRange k ++ words c)) (passed-hold (checkWithIndex c k) r e h) in
-    let first = hold-split (indices c) (inRange k ++ words c) (size .1) in
-    let second = hold-split (inRange k) (words c) (first .1) in
-    (all-fit c (size-fits c (size .0)) (first .0) (second .1), index-holds k (second .0))
+with-index-fits c k r e h = hold-with-index c k (passed-hold (checkWithIndex c k) r e h)
 
 pub canonic-fits : (c : CanonicCoset) (r : Check) → r ≡ outcome (checkCanonic c) → r ≡ Passed → FitsCanonic c
-unfolding checkCanonic
-canonic-fits c r e h =
-    let n = c .coset .«log_size» in
-    let size = hold-split (need (isLogSize n) LogSize) (indices (c .coset) ++ words (c .coset)) (passed-hold (checkCanonic c) r e h) in
-    let range = log-size-fits n (size .0 .0) in
-    let rest = hold-split (indices (c .coset)) (words (c .coset)) (size .1) in
-    record { coset = all-fit (c .coset) (omega arith) (rest .0) (rest .1); least = range .0; most = range .1 }
+canonic-fits c r e h = hold-canonic c (passed-hold (checkCanonic c) r e h)
 
 -- a log size that is one of a canonic coset
 pub canonic-log-size : (n : ℕ) (r : Bool) → r ≡ isLogSize n → not r ≡ false → (1 ≤ n) × (n ≤ 30)
@@ -122,32 +71,16 @@ canonic-log-size n r e h = log-size-fits n (sym e ∙ not-false r h)
 
 -- ---- indices are below 2^31
 
-index-at-below : (c : Coset) (i : ℕ) → indexAt c i < 2 ^ 31
-unfolding indexAt
-index-at-below c i = omega arith
-
-cond-below : (t : Bool) (m n : ℕ) → m < 2 ^ 31 → n < 2 ^ 31 → cond t m n < 2 ^ 31
-cond-below true m n h k = h
-cond-below false m n h k = k
-
-domain-index-below : (c : Coset) (i : ℕ) → domainIndexAt c i < 2 ^ 31
-unfolding domainIndexAt
-domain-index-below c i =
-    cond-below (ltb i (2 ^ c .«log_size»)) (indexAt c i) (negIndex (indexAt c (i - 2 ^ c .«log_size»))) (index-at-below c i) (omega arith)
-
 pub index-at-fits : (c : Coset) (i : ℕ) (r : CirclePointIndex) → r .0 ≡ indexAt c i → IsIndex r
-index-at-fits c i r e = omega (arith, index-at-below c i)
+index-at-fits c i r e = rw e (index-at-index c i)
 
 pub domain-index-fits : (c : Coset) (i : ℕ) (r : CirclePointIndex) → r .0 ≡ domainIndexAt c i → IsIndex r
-domain-index-fits c i r e = omega (arith, domain-index-below c i)
+domain-index-fits c i r e = rw e (domain-index-index c i)
 
 -- ---- iterators
 
 pub iterator-fits : (it : CosetIterator) → Hold (T.check it) → 0 < it .remaining → T.CanAdvance it
-unfolding T.check
-iterator-fits it t h =
-    let both = hold-split (inRange (it .cur)) (inRange (it .step)) t in
-    record { curFits = index-holds (it .cur) (both .0); stepFits = index-holds (it .step) (both .1); some = h }
+iterator-fits it t h = let both = hold-iterator it t in record { curFits = both .0; stepFits = both .1; some = h }
 
 pub first-holds : (it : CircleDomainIndexIterator) → Hold (T.checkBoth it) → Hold (T.check (it .first))
 unfolding T.check T.checkBoth

@@ -1,74 +1,34 @@
--- Laws of coset records: those that the library makes pass the checks, and the conjugate's indices are the negatives.
-use Prim.Native.Nat.{ℕ, _+_, _-_, _*_, _/_, _%_, _^_, _≤_}
-use mathlib.Core.Path.{_≡_, ap}
-use mathlib.Core.Bool.{true, and-eq-true-iff}
-use mathlib.Core.List.{_++_}
+-- Laws of cosets: those that the library makes fit, and doubled are such cosets again; the conjugate's indices are the negatives.
+use Prim.Native.Nat.{ℕ, zero, suc, _+_, _-_, _*_, _/_, _%_, _^_, _≤_}
+use mathlib.Core.Path.{_≡_, refl, sym, _∙_, ap}
+use mathlib.Core.Bool.{true}
 use native.Mathlib.Nat as N
 use native.Mathlib.Omega.{arith}
-use lib.Dec.{ltb, lit<}
-use borrow.Author.Tests.{le-leb, lt-ltb}
-use Rattle.algebra.specs.M31 as M31
-use Rattle.fields.specs.Check.{need}
-use Rattle.fields.specs.CheckLaws.{Hold, hold-both}
-use Rattle.fields.specs.LogSize.{isLogSize}
-use Rattle.fields.specs.LogSizeLaws.{log-size-passes}
-use Rattle.fields.specs.declared.refusal.Refusal.the-variants.{LogSize}
-use Rattle.circle.specs.Point.{Reduced, reduced}
-use Rattle.circle.specs.Point as P
-use Rattle.circle.specs.IndexPoints.{index-below}
-use Rattle.circle.specs.AnswerLaws.{index-passes}
-use Rattle.circle.specs.declared.point.CirclePoint.{CirclePoint}
-use Rattle.circle.specs.Index.{ofIndex, IsIndex, inRange, negIndex, subgroupGen}
+use lib.Dec.{lit<}
+use borrow.Author.Tests.{le-leb, eq-eqb}
+use Rattle.algebra.specs.M31.{m31}
+use Rattle.algebra.specs.ZMod.{mod-mul-mod}
+use Rattle.algebra.specs.Doubling.{iterate}
+use Rattle.fields.specs.AnswerLaws.{first-holds}
+use Rattle.fields.specs.Words.{words31}
+use Rattle.fields.specs.Inverse.{m31-representation}
+use Rattle.circle.specs.Point.{ofPoint, pointOf}
+use Rattle.circle.specs.Points.{plus-reduced}
+use Rattle.circle.specs.IndexPoints.{index-below, index-double}
+use Rattle.circle.specs.Index.{ofIndex, IsIndex, negIndex, subgroupGen}
 use Rattle.domains.specs.declared.coset.Coset.{Coset}
-use Rattle.domains.specs.declared.canonic.CanonicCoset.{CanonicCoset}
-use Rattle.domains.specs.Record.{logSize, indices, words, check, checkCanonic, checkTwo, Fits, FitsCanonic}
-use Rattle.domains.specs.Coset.{cosetOf, indexAt, conjugated}
-
--- ---- records that fit pass
-
-point-passes : (p : CirclePoint) → Reduced p → reduced p ≡ true
-point-passes p h = and-eq-true-iff (ltb (p .x .0) M31.P) (ltb (p .y .0) M31.P) .1
-    (lt-ltb (p .x .0) M31.P (h .0), lt-ltb (p .y .0) M31.P (h .1))
-
-module _ (c : Coset) (f : Fits c) where
-  size-holds : Hold (logSize c)
-  size-holds = (le-leb (c .«log_size») 31 (f .logSizeFits), tt)
-
-  indices-hold : Hold (indices c)
-  indices-hold =
-      hold-both (inRange (c .«initial_index»)) (inRange (c .«step_size»))
-      (index-passes (c .«initial_index») (f .initialIndexFits), tt) (index-passes (c .«step_size») (f .stepSizeFits), tt)
-
-  words-hold : Hold (words c)
-  words-hold =
-      hold-both (P.words (c .initial)) (P.words (c .step))
-      (point-passes (c .initial) (f .initialReduced), tt) (point-passes (c .step) (f .stepReduced), tt)
-
-  pub fits-hold : Hold (check c)
-  unfolding check
-  fits-hold = hold-both (logSize c) (indices c ++ words c) size-holds (hold-both (indices c) (words c) indices-hold words-hold)
-
-pub canonic-hold : (c : CanonicCoset) → FitsCanonic c → Hold (checkCanonic c)
-unfolding checkCanonic
-canonic-hold c f =
-    hold-both (need (isLogSize (c .coset .«log_size»)) LogSize) (indices (c .coset) ++ words (c .coset))
-    (log-size-passes (c .coset .«log_size») (f .least) (f .most), tt)
-    (hold-both (indices (c .coset)) (words (c .coset)) (indices-hold (c .coset) (f .coset)) (words-hold (c .coset) (f .coset)))
-
--- two records that fit
-pub two-hold : (c d : Coset) → Fits c → Fits d → Hold (checkTwo c d)
-unfolding checkTwo
-two-hold c d f g =
-    hold-both (logSize c ++ logSize d) ((indices c ++ indices d) ++ (words c ++ words d))
-    (hold-both (logSize c) (logSize d) (size-holds c f) (size-holds d g))
-    (hold-both (indices c ++ indices d) (words c ++ words d)
-    (hold-both (indices c) (indices d) (indices-hold c f) (indices-hold d g))
-    (hold-both (words c) (words d) (words-hold c f) (words-hold d g)))
+use Rattle.domains.specs.Record.{Fits, FitsCanonic}
+use Rattle.domains.specs.Coset.{cosetOf, indexAt, doubled, sameCoset, isDoublingOf, shifted, conjugated}
+use Rattle.domains.specs.Canonic.{canonicOf, halfOf}
 
 -- ---- cosets that the library makes
 
 pub subgroup-gen-index : (n : ℕ) → IsIndex (ofIndex (subgroupGen n))
-subgroup-gen-index n = N.pow-le-pow-right {n = 2} (lit< tt) {i = 31 - n} {j = 31} (omega arith)
+subgroup-gen-index n = omega arith
+
+-- only that of log size 0 is reduced
+pub subgroup-gen-power : (n : ℕ) → 1 ≤ n → subgroupGen n ≡ 2 ^ (31 - n)
+subgroup-gen-power n h = N.mod-eq-of-lt (omega (arith, N.pow-le-pow-right {n = 2} (lit< tt) {i = 31 - n} {j = 30} (omega arith)))
 
 pub made-fits : (k n : ℕ) → IsIndex (ofIndex k) → n ≤ 31 → Fits (cosetOf k n)
 unfolding cosetOf
@@ -79,6 +39,101 @@ made-fits k n h l = record {
   initialReduced = index-below k;
   stepReduced = index-below (subgroupGen n);
 }
+
+pub canonic-of-fits : (n : ℕ) → 1 ≤ n → n ≤ 30 → FitsCanonic (canonicOf n)
+unfolding canonicOf cosetOf
+canonic-of-fits n lo hi =
+    record { coset = made-fits (subgroupGen (n + 1)) n (subgroup-gen-index (n + 1)) (omega arith); least = lo; most = hi }
+
+pub half-of-fits : (n : ℕ) → n ≤ 30 → Fits (halfOf n)
+unfolding halfOf
+half-of-fits n h = made-fits (subgroupGen (n - 1 + 2)) (n - 1) (subgroup-gen-index (n - 1 + 2)) (omega arith)
+
+-- the step may be taken unreduced
+pub made-index : (k n i : ℕ) → indexAt (cosetOf k n) i ≡ (k + 2 ^ (31 - n) * i) % 2 ^ 31
+unfolding indexAt cosetOf
+made-index k n i =
+    sym (N.add-mod-mod k (subgroupGen n * i) (2 ^ 31)) ∙ ap (λ (t : ℕ). (k + t) % 2 ^ 31) (mod-mul-mod (2 ^ (31 - n)) i (2 ^ 31))
+    ∙ N.add-mod-mod k (2 ^ (31 - n) * i) (2 ^ 31)
+
+-- doubling gives the coset from twice the first index on, of half as many points
+pub made-doubled : (k n : ℕ) → n ≤ 30 → doubled (cosetOf k (suc n)) ≡ cosetOf ((k * 2) % 2 ^ 31) n
+unfolding doubled cosetOf
+made-doubled k n h = λ i. record {
+  «initial_index» = ofIndex ((k * 2) % 2 ^ 31);
+  initial = ofPoint (index-double k ((k * 2) % 2 ^ 31) (k * 2 / 2 ^ 31) (omega arith) i);
+  «step_size» = ofIndex (twice-step i);
+  step = ofPoint (index-double (subgroupGen (suc n)) (subgroupGen n) (subgroupGen (suc n) * 2 / 2 ^ 31) (omega (arith, twice-step)) i);
+  «log_size» = one-less i;
+}
+  where
+    one-less : suc n - 1 ≡ n
+    one-less = omega arith
+
+    twice-step : (subgroupGen (suc n) * 2) % 2 ^ 31 ≡ subgroupGen n
+    twice-step =
+        let fewer : suc (31 - suc n) ≡ 31 - n = omega arith in
+        mod-mul-mod (2 ^ (31 - suc n)) 2 (2 ^ 31)
+        ∙ ap (λ (t : ℕ). t % 2 ^ 31) (N.mul-comm (2 ^ (31 - suc n)) 2 ∙ sym (N.pow-succ' 2 (31 - suc n)) ∙ ap (λ (t : ℕ). 2 ^ t) fewer)
+
+same-itself : (c : Coset) → sameCoset c c ≡ true
+unfolding sameCoset
+same-itself c =
+    rw (
+      eq-eqb (c .«initial_index» .0) (c .«initial_index» .0) refl,
+      eq-eqb (c .«step_size» .0) (c .«step_size» .0) refl,
+      eq-eqb (c .initial .x .0) (c .initial .x .0) refl,
+      eq-eqb (c .initial .y .0) (c .initial .y .0) refl,
+      eq-eqb (c .step .x .0) (c .step .x .0) refl,
+      eq-eqb (c .step .y .0) (c .step .y .0) refl,
+      eq-eqb (c .«log_size») (c .«log_size») refl,
+    )
+
+-- and is_doubling_of says so
+pub made-doubling : (k n : ℕ) → n ≤ 30 → isDoublingOf (cosetOf ((k * 2) % 2 ^ 31) n) (cosetOf k (suc n)) ≡ true
+unfolding isDoublingOf iterate cosetOf
+made-doubling k n h =
+    let once : suc n - n ≡ 1 = omega arith in
+    sym (first-holds _ _ (le-leb n (suc n) (omega arith)))
+    ∙ ap (λ (t : ℕ). sameCoset (cosetOf ((k * 2) % 2 ^ 31) n) (iterate t doubled (cosetOf k (suc n)))) once
+    ∙ ap (sameCoset (cosetOf ((k * 2) % 2 ^ 31) n)) (made-doubled k n h) ∙ same-itself (cosetOf ((k * 2) % 2 ^ 31) n)
+
+-- ---- cosets that are made of others
+
+pub doubled-fits : (c : Coset) → Fits c → Fits (doubled c)
+unfolding doubled
+doubled-fits c f = record {
+  logSizeFits = omega (arith, f .logSizeFits);
+  initialIndexFits = omega arith;
+  stepSizeFits = omega arith;
+  initialReduced = plus-reduced words31 m31 m31-representation (pointOf (c .initial)) (pointOf (c .initial));
+  stepReduced = plus-reduced words31 m31 m31-representation (pointOf (c .step)) (pointOf (c .step));
+}
+
+pub doublings-fit : (n : ℕ) (c : Coset) → Fits c → Fits (iterate n doubled c)
+unfolding iterate
+doublings-fit zero c f = f
+doublings-fit (suc n) c f = doublings-fit n (doubled c) (doubled-fits c f)
+
+pub shifted-fits : (c : Coset) (k : ℕ) → Fits c → Fits (shifted c k)
+unfolding shifted
+shifted-fits c k f = record {
+  logSizeFits = f .logSizeFits;
+  initialIndexFits = omega arith;
+  stepSizeFits = f .stepSizeFits;
+  initialReduced = index-below ((c .«initial_index» .0 + k) % 2 ^ 31);
+  stepReduced = f .stepReduced;
+}
+
+-- ---- the indices of a coset
+
+pub index-at-index : (c : Coset) (i : ℕ) → IsIndex (ofIndex (indexAt c i))
+unfolding indexAt
+index-at-index c i = omega arith
+
+pub index-at-zero : (c : Coset) → Fits c → indexAt c 0 ≡ c .«initial_index» .0
+unfolding indexAt
+index-at-zero c f = omega (arith, f .initialIndexFits)
 
 -- ---- the conjugate
 

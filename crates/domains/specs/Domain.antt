@@ -1,11 +1,11 @@
 -- What each call of circle domains answers: the refusals of the table in docs/CALLS.md in its order, then its formulas.
 use Prim.Native.Nat.{ℕ, _+_, _-_, _*_, _%_, _^_, _≤_, _<_}
 use mathlib.Core.Path.{_≡_}
-use mathlib.Core.Bool.{cond}
+use mathlib.Core.Bool.{Bool, true, cond, _||_}
 use mathlib.Core.List.{List, _++_}
 use lib.Dec.{leb, ltb, eqb}
 use lib.ListN.{drop}
-use borrow.Author.Tests.{lt-ltb, le-ltb}
+use borrow.Author.Tests.{lt-ltb, le-ltb, eq-eqb, ne-eqb}
 use Rattle.algebra.specs.Listing.{listing}
 use Rattle.fields.specs.Check.{need, checked}
 use Rattle.fields.specs.declared.refusal.Refusal.the-variants.{Length, Doublings}
@@ -56,11 +56,16 @@ indexAtAnswer d i = checked (check (d .«half_coset»)) I.Refused (I.Value (ofIn
 unfoldable pub atAnswer : CircleDomain → ℕ → CirclePointAnswer
 atAnswer d i = checked (check (d .«half_coset»)) P.Refused (P.Value (ofPoint (indexPoint (domainIndexAt (d .«half_coset») i))))
 
+-- of a half coset's initial and step indices: where the step is 0, whether the initial index is 2^29 or 3 times 2^29; elsewhere
 -- whether 4 times the initial index, modulo 2^31, equals the step
+unfoldable pub isCanonic : ℕ → ℕ → Bool
+isCanonic initial step = cond (eqb step 0) (eqb initial (2 ^ 29) || eqb initial (3 * 2 ^ 29)) (eqb ((initial * 4) % 2 ^ 31) step)
+
+-- by the two indices alone
 unfoldable pub isCanonicAnswer : CircleDomain → BoolAnswer
 isCanonicAnswer d =
     checked (check (d .«half_coset»)) B.Refused
-    (B.Value (eqb ((d .«half_coset» .«initial_index» .0 * 4) % 2 ^ 31) (d .«half_coset» .«step_size» .0)))
+    (B.Value (isCanonic (d .«half_coset» .«initial_index» .0) (d .«half_coset» .«step_size» .0)))
 
 -- the half coset's iterator, then the conjugate's
 unfoldable pub domainIteratorOf : Coset → CircleDomainIndexIterator
@@ -93,3 +98,17 @@ index-second c i h = rw (le-ltb i (2 ^ c .«log_size») h)
 pub index-first : (c : Coset) (i : ℕ) → i < 2 ^ c .«log_size» → domainIndexAt c i ≡ indexAt c i
 unfolding domainIndexAt
 index-first c i h = rw (lt-ltb i (2 ^ c .«log_size») h)
+
+-- ---- laws: the three cases of `isCanonic`
+
+pub canonic-by-step : (k s : ℕ) → (s ≡ 0 → ⊥) → isCanonic k s ≡ eqb ((k * 4) % 2 ^ 31) s
+unfolding isCanonic
+canonic-by-step k s h = rw (ne-eqb s 0 h)
+
+pub canonic-at-quarter : (k s : ℕ) → s ≡ 0 → k ≡ 2 ^ 29 → isCanonic k s ≡ true
+unfolding isCanonic
+canonic-at-quarter k s h e = rw (eq-eqb s 0 h, eq-eqb k (2 ^ 29) e)
+
+pub canonic-beside-quarter : (k s : ℕ) → s ≡ 0 → (k ≡ 2 ^ 29 → ⊥) → isCanonic k s ≡ eqb k (3 * 2 ^ 29)
+unfolding isCanonic
+canonic-beside-quarter k s h e = rw (eq-eqb s 0 h, ne-eqb k (2 ^ 29) e)

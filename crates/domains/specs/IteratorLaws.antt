@@ -8,7 +8,7 @@ use lib.Dec.{eqb}
 use borrow.Author.Tests.{eq-eqb, ne-eqb}
 use Rattle.algebra.specs.Doubling.{iterate, iterate-suc, iterate-add}
 use Rattle.fields.specs.CheckLaws.{Hold, hold-both, hold-passes}
-use Rattle.circle.specs.Index.{ofIndex, IsIndex, inRange}
+use Rattle.circle.specs.Index.{ofIndex, inRange}
 use Rattle.circle.specs.AnswerLaws.{index-passes}
 use Rattle.domains.specs.declared.coset.Coset.{Coset}
 use Rattle.domains.specs.declared.iterator.CosetIterator.{CosetIterator}
@@ -19,7 +19,7 @@ use Rattle.domains.specs.declared.iterator.CircleDomainStep.{CircleDomai
 use Rattle.domains.specs.declared.iterator.CircleDomainStep.the-variants as D
 use Rattle.domains.specs.Record.{Fits}
 use Rattle.domains.specs.Coset.{indexAt, conjugated, iteratorOf}
-use Rattle.domains.specs.CosetLaws.{conjugate-fits}
+use Rattle.domains.specs.CosetLaws.{index-at-index, index-at-zero, conjugate-fits}
 use Rattle.domains.specs.Iterator.{check, checkBoth, advanced, nextAnswer, domainNextAnswer}
 use Rattle.domains.specs.Domain.{domainIteratorOf}
 
@@ -41,31 +41,20 @@ steps k it = iterate k (λ it. after it (nextAnswer it)) it
 abbrev pub domainSteps : ℕ → CircleDomainIndexIterator → CircleDomainIndexIterator
 domainSteps k it = iterate k (λ it. domainAfter it (domainNextAnswer it)) it
 
--- the k-th index: the first one as it is stored, the others by `index_at`
-unfoldable pub walkedIndex : Coset → ℕ → ℕ
-walkedIndex c zero = c .«initial_index» .0
-walkedIndex c (suc k) = indexAt c (suc k)
-
--- 2^31 is kept as the first; any other first index is that of `index_at` too
-pub walked-index : (c : Coset) → c .«initial_index» .0 < 2 ^ 31 → (k : ℕ) → walkedIndex c k ≡ indexAt c k
-unfolding walkedIndex indexAt
-walked-index c h zero = omega arith
-walked-index c h (suc k) = refl
-
 -- what the iterator of a coset hands back; `coset-walk` proves it for every coset that fits
 pub record CosetWalk (c : Coset) : Type 0 where
   pub index : (k : ℕ) → k < 2 ^ c .«log_size»
-      → nextAnswer (steps k (iteratorOf c)) ≡ Next (ofIndex (walkedIndex c k)) (steps (suc k) (iteratorOf c))
+      → nextAnswer (steps k (iteratorOf c)) ≡ Next (ofIndex (indexAt c k)) (steps (suc k) (iteratorOf c))
   pub done : (k : ℕ) → 2 ^ c .«log_size» ≤ k → nextAnswer (steps k (iteratorOf c)) ≡ Done (steps (suc k) (iteratorOf c))
 
 -- what the iterator of a domain hands back; `domain-walk` proves it for every half coset that fits
 pub record DomainWalk (c : Coset) : Type 0 where
   pub first-half : (k : ℕ) → k < 2 ^ c .«log_size»
       → domainNextAnswer (domainSteps k (domainIteratorOf c))
-      ≡ D.Next (ofIndex (walkedIndex c k)) (domainSteps (suc k) (domainIteratorOf c))
+      ≡ D.Next (ofIndex (indexAt c k)) (domainSteps (suc k) (domainIteratorOf c))
   pub second-half : (k : ℕ) → k < 2 ^ c .«log_size»
       → domainNextAnswer (domainSteps (2 ^ c .«log_size» + k) (domainIteratorOf c))
-      ≡ D.Next (ofIndex (walkedIndex (conjugated c) k)) (domainSteps (suc (2 ^ c .«log_size» + k)) (domainIteratorOf c))
+      ≡ D.Next (ofIndex (indexAt (conjugated c) k)) (domainSteps (suc (2 ^ c .«log_size» + k)) (domainIteratorOf c))
   pub done : (k : ℕ) → 2 * 2 ^ c .«log_size» ≤ k
       → domainNextAnswer (domainSteps k (domainIteratorOf c)) ≡ D.Done (domainSteps (suc k) (domainIteratorOf c))
 
@@ -87,39 +76,36 @@ module _ {S : Type 0} (f : S → S) (at : ℕ → S) (size : ℕ) (next : (k : �
 
 -- its state after k steps, while there are any
 unfoldable stateAt : Coset → ℕ → CosetIterator
-stateAt c k = record { cur = ofIndex (walkedIndex c k); step = c .«step_size»; remaining = 2 ^ c .«log_size» - k }
+stateAt c k = record { cur = ofIndex (indexAt c k); step = c .«step_size»; remaining = 2 ^ c .«log_size» - k }
 
-state-index : (c : Coset) (k : ℕ) → stateAt c k .cur ≡ ofIndex (walkedIndex c k)
+state-index : (c : Coset) (k : ℕ) → stateAt c k .cur ≡ ofIndex (indexAt c k)
 unfolding stateAt
 state-index c k = refl
 
 module _ (c : Coset) (f : Fits c) where
-  walked-most : (k : ℕ) → IsIndex (ofIndex (walkedIndex c k))
-  unfolding walkedIndex indexAt
-  walked-most zero = f .initialIndexFits
-  walked-most (suc k) = omega arith
-
   iterator-start : iteratorOf c ≡ stateAt c 0
-  unfolding stateAt walkedIndex iteratorOf
-  iterator-start =
-      λ i. record { cur = ofIndex (c .«initial_index» .0); step = c .«step_size»; remaining = sym (N.sub-zero (2 ^ c .«log_size»)) i }
+  unfolding stateAt iteratorOf
+  iterator-start = λ i. record {
+    cur = ofIndex (sym (index-at-zero c f) i);
+    step = c .«step_size»;
+    remaining = sym (N.sub-zero (2 ^ c .«log_size»)) i;
+  }
 
   state-holds : (k : ℕ) → Hold (check (stateAt c k))
   unfolding check stateAt
   state-holds k =
-      hold-both (inRange (ofIndex (walkedIndex c k))) (inRange (c .«step_size»))
-      (index-passes (ofIndex (walkedIndex c k)) (walked-most k), tt) (index-passes (c .«step_size») (f .stepSizeFits), tt)
+      hold-both (inRange (ofIndex (indexAt c k))) (inRange (c .«step_size»))
+      (index-passes (ofIndex (indexAt c k)) (index-at-index c k), tt) (index-passes (c .«step_size») (f .stepSizeFits), tt)
 
-  walked-next : (k : ℕ) → (walkedIndex c k + c .«step_size» .0) % 2 ^ 31 ≡ walkedIndex c (suc k)
-  unfolding walkedIndex indexAt
-  walked-next zero = omega arith
-  walked-next (suc k) = omega arith
+  next-index : (k : ℕ) → (indexAt c k + c .«step_size» .0) % 2 ^ 31 ≡ indexAt c (suc k)
+  unfolding indexAt
+  next-index k = omega arith
 
   state-next : (k : ℕ) → k < 2 ^ c .«log_size» → advanced (stateAt c k) ≡ stateAt c (suc k)
   unfolding advanced stateAt
   state-next k h =
       let fewer : 2 ^ c .«log_size» - k - 1 ≡ 2 ^ c .«log_size» - suc k = omega arith in
-      λ i. record { cur = ofIndex (walked-next k i); step = c .«step_size»; remaining = fewer i }
+      λ i. record { cur = ofIndex (next-index k i); step = c .«step_size»; remaining = fewer i }
 
   some-left : (k : ℕ) → k < 2 ^ c .«log_size» → eqb (stateAt c k .remaining) 0 ≡ false
   unfolding stateAt
@@ -129,7 +115,7 @@ module _ (c : Coset) (f : Fits c) where
   unfolding stateAt
   none-left = eq-eqb (2 ^ c .«log_size» - 2 ^ c .«log_size») 0 (omega arith)
 
-  state-step : (k : ℕ) → k < 2 ^ c .«log_size» → nextAnswer (stateAt c k) ≡ Next (ofIndex (walkedIndex c k)) (stateAt c (suc k))
+  state-step : (k : ℕ) → k < 2 ^ c .«log_size» → nextAnswer (stateAt c k) ≡ Next (ofIndex (indexAt c k)) (stateAt c (suc k))
   unfolding nextAnswer
   state-step k h =
       hold-passes (check (stateAt c k)) Refused _ (state-holds k) ∙ rw (some-left k h) (λ i. Next (state-index c k i) (state-next k h i))
@@ -159,7 +145,7 @@ module _ (c : Coset) (f : Fits c) where
   pub coset-walk : CosetWalk c
   coset-walk = record {
     index = λ k h. ap nextAnswer (steps-state k (omega arith)) ∙ state-step k h
-        ∙ ap (Next (ofIndex (walkedIndex c k))) (sym (steps-state (suc k) h));
+        ∙ ap (Next (ofIndex (indexAt c k))) (sym (steps-state (suc k) h));
     done = λ k h. ap nextAnswer (steps-ended k h) ∙ state-done ∙ ap Done (sym (steps-ended (suc k) (omega arith)));
   }
 
@@ -186,15 +172,15 @@ module _ (c : Coset) (f : Fits c) where
   unfolding check checkBoth
   both-hold j k = hold-both (check (stateAt c j)) (check (stateAt (conjugated c) k)) (state-holds c f j) (state-holds (conjugated c) g k)
 
-  first-step : (k : ℕ) → k < 2 ^ c .«log_size» → domainNextAnswer (firstAt k) ≡ D.Next (ofIndex (walkedIndex c k)) (firstAt (suc k))
-  unfolding domainNextAnswer walkedIndex
+  first-step : (k : ℕ) → k < 2 ^ c .«log_size» → domainNextAnswer (firstAt k) ≡ D.Next (ofIndex (indexAt c k)) (firstAt (suc k))
+  unfolding domainNextAnswer indexAt
   first-step k h =
       hold-passes (checkBoth (firstAt k)) D.Refused _ (both-hold k 0)
       ∙ rw (some-left c f k h) (λ i. D.Next (state-index c k i) (pair (state-next c f k h i) (stateAt (conjugated c) 0)))
 
   second-step : (k : ℕ) → k < 2 ^ c .«log_size»
-      → domainNextAnswer (secondAt k) ≡ D.Next (ofIndex (walkedIndex (conjugated c) k)) (secondAt (suc k))
-  unfolding domainNextAnswer conjugated walkedIndex
+      → domainNextAnswer (secondAt k) ≡ D.Next (ofIndex (indexAt (conjugated c) k)) (secondAt (suc k))
+  unfolding domainNextAnswer conjugated indexAt
   second-step k h =
       hold-passes (checkBoth (secondAt k)) D.Refused _ (both-hold (2 ^ c .«log_size») k)
       ∙ rw (none-left c f, some-left (conjugated c) g k h)
@@ -242,9 +228,9 @@ module _ (c : Coset) (f : Fits c) where
   pub domain-walk : DomainWalk c
   domain-walk = record {
     first-half = λ k h. ap domainNextAnswer (first-steps k (omega arith)) ∙ first-step k h
-        ∙ ap (D.Next (ofIndex (walkedIndex c k))) (sym (first-steps (suc k) h));
+        ∙ ap (D.Next (ofIndex (indexAt c k))) (sym (first-steps (suc k) h));
     second-half = λ k h. ap domainNextAnswer (second-steps k (omega arith)) ∙ second-step k h
-        ∙ ap (D.Next (ofIndex (walkedIndex (conjugated c) k)))
+        ∙ ap (D.Next (ofIndex (indexAt (conjugated c) k)))
         (sym (ap (λ (t : ℕ). domainSteps t (domainIteratorOf c)) (sym (N.add-suc (2 ^ c .«log_size») k)) ∙ second-steps (suc k) h));
     done = λ k h. ap domainNextAnswer (all-steps k h) ∙ last-step ∙ ap D.Done (sym (all-steps (suc k) (omega arith)));
   }

@@ -6,7 +6,7 @@ ghost use lib.ListN.{length, drop};
 ghost use Rattle.algebra.specs.Listing.{listing};
 ghost use Rattle.domains.specs.Record.{Fits};
 ghost use Rattle.domains.specs.Domain.{newAnswer, iterIndicesAnswer, sizeAnswer, logSizeAnswer, domainIndexAt};
-ghost use Rattle.domains.specs.Domain.{atAnswer, indexAtAnswer, isCanonicAnswer, splitAnswer, splitExit, shiftAnswer};
+ghost use Rattle.domains.specs.Domain.{atAnswer, indexAtAnswer, isCanonic, isCanonicAnswer, splitAnswer, splitExit, shiftAnswer};
 use crate::coset::Coset;
 use crate::coset::inner;
 use crate::iterator::CircleDomainIndexIterator;
@@ -33,6 +33,9 @@ pub enum CircleDomainAnswer {
     Refused(Refusal),
 }
 
+// 2^29, a quarter of the order of G: the first index of the canonic domain of log size 1
+const QUARTER: u64 = 536870912;
+
 // From the half coset's size on, the conjugates: the positions are not periodic.
 fn index_at(half: Coset, i: u64) -> CirclePointIndex
     requires { ⌜ Fits half ⌝ }
@@ -43,6 +46,22 @@ fn index_at(half: Coset, i: u64) -> CirclePointIndex
         return inner::index_at(half, i);
     }
     index::neg(inner::index_at(half, i - size))
+}
+
+// Where the step is 0 the index itself is asked: four times 0 and four times 2^30 are 0 modulo 2^31 too.
+fn is_canonic(half: Coset) -> bool
+    ensures { λ r. ⌜ r ≡ isCanonic (half .«initial_index» .0) (half .«step_size» .0) ⌝ }
+{
+    let initial = half.initial_index.0;
+    let step = half.step_size.0;
+    if step != 0 {
+        let fourfold = index::mul(half.initial_index, 4);
+        return fourfold.0 == step;
+    }
+    if initial == QUARTER {
+        return true;
+    }
+    initial == 3 * QUARTER
 }
 
 // step times 0, 1, .. up to so many parts
@@ -135,8 +154,7 @@ impl CircleDomain {
         if let Check::Refused(why) = record {
             return BoolAnswer::Refused(why);
         }
-        let fourfold = index::mul(half.initial_index, 4);
-        BoolAnswer::Value(fourfold.0 == half.step_size.0)
+        BoolAnswer::Value(is_canonic(half))
     }
 
     // A domain of fewer points, and the shifts that take it to the parts of this one.

@@ -53,6 +53,14 @@ accepted-hold [] f a n e = tt
 accepted-hold ((true, why) ∷ rest) f a n e = (refl, accepted-hold rest f a n e)
 accepted-hold ((false, why) ∷ rest) f a n e = absurd (n why e)
 
+-- what every refusal has, and the value where every test holds, the answer has
+pub checked-has : {A : Type 0} (Has : A → Type 0) (checks : Checks) (f : Refusal → A) (a : A) → ((why : Refusal) → Has (f why))
+    → (Hold checks → Has a)
+    → Has (checked checks f a)
+checked-has Has [] f a r v = v tt
+checked-has Has ((true, why) ∷ rest) f a r v = checked-has Has rest f a r (λ h. v (refl, h))
+checked-has Has ((false, why) ∷ rest) f a r v = r why
+
 -- r is what the checks said
 pub passed-hold : (checks : Checks) (r : Check) → r ≡ outcome checks → r ≡ Passed → Hold checks
 passed-hold checks r e h = hold checks (sym e ∙ h)

@@ -5,7 +5,7 @@ ghost use Rattle.fields.specs.Refusal.{numberOf, positionOf};
 pub enum Refusal {
     // a log size outside its range
     LogSize,
-    // a point index above 2^31, or a coset position outside its coset
+    // a point index that isn't below 2^31, or a coset position outside its coset
     Index,
     // a scalar outside its range
     Scalar,

@@ -1,7 +1,8 @@
--- The cases that the scope document wants proved one by one, over the definitions that the contracts cite.
-use Prim.Native.Nat.{ℕ, zero, suc, _-_, _*_, _%_, _^_, _≤_, _<_}
+-- The cases that the scope document wants proved one by one, over the definitions that the contracts cite; two with the answers of
+-- order 7, which turned them.
+use Prim.Native.Nat.{ℕ, zero, suc, _-_, _*_, _^_, _≤_, _<_}
 use mathlib.Core.Path.{_≡_, refl, sym, _∙_, ap}
-use mathlib.Core.Bool.{false}
+use mathlib.Core.Bool.{true}
 use mathlib.Core.List.{List, [], _∷_, _++_, map}
 use native.Mathlib.Nat as N
 use native.Mathlib.Omega.{arith}
@@ -38,14 +39,14 @@ use Rattle.circle.specs.declared.point.CirclePointAnswer.the-variants as P
 use Rattle.circle.specs.declared.index.CirclePointIndexAnswer.the-variants as I
 use Rattle.orders.specs.BitReverse.{reverseBits}
 use Rattle.orders.specs.Orders.{logSize, inPlaceAnswer, inPlaceExit, wordsAt, cosetBitReversed}
-use Rattle.orders.specs.Orders.{toDomain, offsetAnswer, offsetElement, previousAnswer}
+use Rattle.orders.specs.Orders.{toDomain, offsetElement, previousAnswer}
 use Rattle.domains.specs.declared.coset.CosetAnswer.the-variants as K
 use Rattle.domains.specs.declared.domain.CircleDomainAnswer.the-variants as D
 use Rattle.domains.specs.Listing.{unit, cosetIndex, domainIndices}
 use Rattle.domains.specs.Record.{check, checkTwo}
-use Rattle.domains.specs.Coset.{cosetOf, newAnswer, subgroupAnswer, doubled, doubleAnswer}
-use Rattle.domains.specs.Coset.{repeatedDoubleAnswer, sameCoset, isDoublingOf, isDoublingOfAnswer}
-use Rattle.domains.specs.CosetLaws.{fits-hold, two-hold, made-fits}
+use Rattle.domains.specs.Coset.{cosetOf, subgroupAnswer, doubled, doubleAnswer, repeatedDoubleAnswer, isDoublingOfAnswer}
+use Rattle.domains.specs.RecordLaws.{fits-hold, two-hold}
+use Rattle.domains.specs.CosetLaws.{made-fits, made-doubled, made-doubling}
 use Rattle.domains.specs.CanonicDomain.{canonic-domain}
 use Rattle.domains.specs.Domain.{ofHalf, indexAtAnswer, isCanonicAnswer}
 use Rattle.domains.specs.Canonic.{canonicOf, halfOf, circleDomainAnswer}
@@ -97,7 +98,7 @@ half-order-point = ap (λ (p : ℕ × ℕ). P.Value (ofPoint p)) (index-antipode
 
 -- ---- cosets and domains
 
--- `is_doubling_of`: `subgroup(0)` against `subgroup(1)` is false
+-- `is_doubling_of`: `subgroup(0)` is the doubling of `subgroup(1)`
 pub subgroup-zero : subgroupAnswer 0 ≡ K.Value (cosetOf 0 0)
 unfolding subgroupAnswer
 subgroup-zero = refl
@@ -106,31 +107,24 @@ pub subgroup-one : subgroupAnswer 1 ≡ K.Value (cosetOf 0 1)
 unfolding subgroupAnswer
 subgroup-one = refl
 
-steps-differ : isDoublingOf (cosetOf 0 0) (cosetOf 0 1) ≡ false
-unfolding isDoublingOf sameCoset iterate doubled cosetOf
-steps-differ = refl
-
-pub no-doubling : isDoublingOfAnswer (cosetOf 0 0) (cosetOf 0 1) ≡ B.Value false
+pub is-doubling : isDoublingOfAnswer (cosetOf 0 0) (cosetOf 0 1) ≡ B.Value true
 unfolding isDoublingOfAnswer
-no-doubling =
+is-doubling =
     hold-passes (checkTwo (cosetOf 0 0) (cosetOf 0 1)) B.Refused _
-    (two-hold (cosetOf 0 0) (cosetOf 0 1) (made-fits 0 0 (lit≤ tt) (lit≤ tt)) (made-fits 0 1 (lit≤ tt) (lit≤ tt)))
-    ∙ ap B.Value steps-differ
+    (two-hold (cosetOf 0 0) (cosetOf 0 1) (made-fits 0 0 (lit< tt) (lit≤ tt)) (made-fits 0 1 (lit< tt) (lit≤ tt)))
+    ∙ ap B.Value (made-doubling 0 0 (lit≤ tt))
 
--- the steps that are compared: 2^31 of `subgroup(0)` against 0 of `subgroup(1)` doubled
-pub doubled-subgroup : doubleAnswer (cosetOf 0 1) ≡ K.Value (doubled (cosetOf 0 1))
+-- `double` of `subgroup(1)` is `subgroup(0)`, whose step is 0
+pub doubled-subgroup : doubleAnswer (cosetOf 0 1) ≡ K.Value (cosetOf 0 0)
 unfolding doubleAnswer repeatedDoubleAnswer iterate cosetOf
 doubled-subgroup =
     hold-passes (check (cosetOf 0 1) ++ need (leb 1 1) Doublings) K.Refused (K.Value (doubled (cosetOf 0 1)))
-    (hold-both (check (cosetOf 0 1)) (need (leb 1 1) Doublings) (fits-hold (cosetOf 0 1) (made-fits 0 1 (lit≤ tt) (lit≤ tt))) (refl, tt))
+    (hold-both (check (cosetOf 0 1)) (need (leb 1 1) Doublings) (fits-hold (cosetOf 0 1) (made-fits 0 1 (lit< tt) (lit≤ tt))) (refl, tt))
+    ∙ ap K.Value (made-doubled 0 0 (lit≤ tt))
 
-pub step-of-subgroup : cosetOf 0 0 .«step_size» ≡ ofIndex (2 ^ 31)
+pub step-of-subgroup : cosetOf 0 0 .«step_size» ≡ ofIndex 0
 unfolding cosetOf
 step-of-subgroup = refl
-
-pub step-of-doubled : doubled (cosetOf 0 1) .«step_size» ≡ ofIndex 0
-unfolding doubled cosetOf
-step-of-doubled = refl
 
 -- n = 3, in units of h: the coset 1 3 5 7 9 11 13 15, as `index_at` of the canonic coset gives it
 abbrev cosetThree : List ℕ
@@ -157,20 +151,19 @@ pub domain-three : (i : ℕ) → i < 2 ^ 3 → indexAtAnswer (ofHalf (halfOf 3))
 domain-three i h =
     canonic-domain 3 (lit≤ tt) (lit≤ tt) .indices i h ∙ ap (λ (l : List ℕ). I.Value (ofIndex (getD l i 0))) domain-list
 
--- `is_canonic` of the canonic domain of log size 1 is false
+-- `is_canonic` of the canonic domain of log size 1 is true
 pub domain-one : circleDomainAnswer (canonicOf 1) ≡ D.Value (ofHalf (halfOf 1))
 domain-one = canonic-domain 1 (lit≤ tt) (lit≤ tt) .domain
 
-pub not-canonic : isCanonicAnswer (ofHalf (halfOf 1)) ≡ B.Value false
-unfolding isCanonicAnswer halfOf cosetOf
-not-canonic = hold-passes (check (halfOf 1)) B.Refused _ (fits-hold (cosetOf (2 ^ 29) 0) (made-fits (2 ^ 29) 0 (lit≤ tt) (lit≤ tt)))
+pub is-canonic : isCanonicAnswer (ofHalf (halfOf 1)) ≡ B.Value true
+is-canonic = canonic-domain 1 (lit≤ tt) (lit≤ tt) .isCanonic
 
--- the numbers that are compared: 4 times its initial index, reduced, is 0, and its step is 2^31
-pub four-times-initial : (halfOf 1 .«initial_index» .0 * 4) % 2 ^ 31 ≡ 0
+-- the case of its definition: the step is 0 and the initial index 2^29
+pub initial-of-domain-one : halfOf 1 .«initial_index» .0 ≡ 2 ^ 29
 unfolding halfOf cosetOf
-four-times-initial = refl
+initial-of-domain-one = refl
 
-pub step-of-domain-one : halfOf 1 .«step_size» .0 ≡ 2 ^ 31
+pub step-of-domain-one : halfOf 1 .«step_size» .0 ≡ 0
 unfolding halfOf cosetOf
 step-of-domain-one = refl
 

@@ -5,7 +5,8 @@ use crate::{CirclePoint, M31, Refusal};
 use std::ops::{Add, Mul, Neg, Sub};
 use taripomune_sys::tari_index_reply;
 
-/// The index k of the point k G, from 0 to 2^31: a number of its own, never a count or a position.
+/// The index k of the point k G, below 2^31: a number of its own, never a count or a position. Each point k G has one
+/// index, so equal points have equal indices.
 ///
 /// ```
 /// use taripomune::{CirclePointIndex, M31_CIRCLE_GEN, Refusal};
@@ -14,20 +15,20 @@ use taripomune_sys::tari_index_reply;
 /// assert_eq!(index.to_point(), M31_CIRCLE_GEN.mul(6));
 /// assert_eq!(index.half()? + CirclePointIndex::generator(), CirclePointIndex::new(4)?);
 /// assert_eq!(CirclePointIndex::new(3)?.half(), Err(Refusal::Halving));
-/// assert_eq!(CirclePointIndex::subgroup_gen(0)?.value(), 1 << 31);
-/// assert_eq!(CirclePointIndex::new((1 << 31) + 1), Err(Refusal::Index));
+/// assert_eq!(CirclePointIndex::subgroup_gen(0)?.value(), 0);
+/// assert_eq!(CirclePointIndex::new(1 << 31), Err(Refusal::Index));
 /// # Ok::<(), Refusal>(())
 /// ```
 #[derive(Clone, Copy, Debug, PartialEq, Eq, Hash)]
 pub struct CirclePointIndex(usize);
 
 impl CirclePointIndex {
-    /// The index of this number, as it is.
+    /// The index of this number.
     ///
-    /// Refuses a number above 2^31 with 4.
+    /// Refuses a number from 2^31 on with 4.
     pub fn new(index: usize) -> Result<CirclePointIndex, Refusal> {
-        answer::<CirclePointIndex>(call!(tari_index_reduce(number index as u64)))?;
-        Ok(CirclePointIndex(index))
+        // An index that is accepted is reduced.
+        answer(call!(tari_index_reduce(number index as u64)))
     }
 
     /// A number known to be an index.
@@ -50,12 +51,12 @@ impl CirclePointIndex {
         accepted(call!(tari_index_generator()))
     }
 
-    /// The index modulo 2^31.
+    /// The index modulo 2^31, which is the index itself.
     pub fn reduce(self) -> CirclePointIndex {
         accepted(call!(tari_index_reduce(index self)))
     }
 
-    /// 2^(31 - `log_size`), the index of a point of order 2^`log_size`.
+    /// 2^(31 - `log_size`) modulo 2^31, the index of a point of order 2^`log_size`; 0 for log size 0.
     ///
     /// Refuses a log size above 31 with 6.
     pub fn subgroup_gen(log_size: u32) -> Result<CirclePointIndex, Refusal> {

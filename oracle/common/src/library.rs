@@ -12,6 +12,8 @@ pub struct Function {
     pub name: &'static str,
     /// A slice and its length are one.
     pub parameters: &'static [Parameter],
+    /// Which of its values are point indices.
+    pub indices: &'static [usize],
     /// Calls the library.
     pub call: fn(&mut Args) -> Answer,
     /// The values of a refused call: zeros, then the words of the slices lent for writing, as they were.

@@ -2,9 +2,9 @@
 
 use crate::entry::Entry;
 use crate::inputs::{combinations, draw, Input};
-use crate::kinds::first_refusal;
+use crate::kinds::{first_refusal, ORDER};
 use common::args::{Answer, Args};
-use common::library::Function;
+use common::library::{Function, FUNCTIONS};
 use common::random::Random;
 use std::fmt::Debug;
 use std::ops::Range;
@@ -75,14 +75,14 @@ fn start<T: Debug>(list: &[T]) -> String {
     }
 }
 
-/// The library's answer, and the refusal of the table or else the Rust's answer.
+/// The library's answer, and the refusal of the table or else the answer that is expected.
 pub fn answers(entry: &Entry, function: &Function, input: &Input) -> Pair {
     let numbers = input.concat();
     let expected = match first_refusal(entry.takes, input) {
         Some(refusal) => {
             Answer { number: refusal.number, position: refusal.position, values: with_all(&numbers, function.refused) }
         }
-        None => Answer { number: 0, position: 0, values: rust(entry, &numbers) },
+        None => Answer { number: 0, position: 0, values: accepted(entry, function, &numbers) },
     };
     let mut library = with_all(&numbers, function.call);
     if let (Some(free), 0) = (entry.free, expected.number) {
@@ -98,11 +98,31 @@ fn put_back(values: &mut [u64], expected: &[u64], free: Range<usize>) {
     }
 }
 
+/// The Rust's values, its indices read modulo 2^31, or what stands instead of them.
+fn accepted(entry: &Entry, function: &Function, numbers: &[i128]) -> Vec<u64> {
+    if let Some(values) = entry.instead.and_then(|instead| with_all(numbers, instead)) {
+        return values;
+    }
+    let mut values = rust(entry, numbers);
+    for place in function.indices {
+        values[*place] %= ORDER as u64;
+    }
+    values
+}
+
 fn rust(entry: &Entry, numbers: &[i128]) -> Vec<u64> {
     catch_unwind(AssertUnwindSafe(|| with_all(numbers, entry.rust))).unwrap_or_else(|_| {
         println!("{}: the Rust panics on {}, which the entry's kinds accept", entry.name, start(numbers));
         exit(1)
     })
+}
+
+/// The values of the library's function of this name, which must accept the numbers.
+pub fn call(name: &str, numbers: &[i128]) -> Vec<i128> {
+    let function = FUNCTIONS.iter().find(|function| function.name == name).expect("the header declares it");
+    let answer = with_all(numbers, function.call);
+    assert_eq!(answer.number, 0, "{name} refuses {numbers:?}");
+    answer.values.into_iter().map(i128::from).collect()
 }
 
 /// Calls with the numbers and sees that all were taken.

@@ -2,7 +2,7 @@
 
 use crate::circle_kinds::INDEX;
 use crate::coset::{iterator, record, step};
-use crate::coset_kinds::{COSET, COSET_AND_POSITION, ITERATOR, SPLIT};
+use crate::coset_kinds::{COSET, COSET_AND_POSITION, COSET_ASKED, ITERATOR, SPLIT};
 use crate::entry::{coordinates, entry, number, Entry};
 use common::args::Args;
 use stwo::core::poly::circle::CircleDomain;
@@ -18,7 +18,8 @@ pub const ENTRIES: &[Entry] = &[
     entry("circle_domain_log_size", &[COSET], |a| vec![domain(a).log_size().into()]),
     entry("circle_domain_at", &[COSET_AND_POSITION], |a| coordinates(domain(a).at(a.take()))),
     entry("circle_domain_index_at", &[COSET_AND_POSITION], |a| number(domain(a).index_at(a.take()))),
-    entry("circle_domain_is_canonic", &[COSET], |a| vec![domain(a).is_canonic().into()]),
+    entry("circle_domain_is_canonic", &[COSET_ASKED], |a| vec![domain(a).is_canonic().into()])
+        .with_instead(is_canonic_with_step_0),
     entry("circle_domain_split", &[SPLIT], split),
     entry("circle_domain_shift", &[COSET, INDEX], |a| record(&domain(a).shift(a.index()).half_coset)),
     entry("circle_domain_index_iterator_next", &[ITERATOR, ITERATOR], |a| {
@@ -30,6 +31,12 @@ pub const ENTRIES: &[Entry] = &[
 
 fn domain(a: &mut Args) -> CircleDomain {
     CircleDomain::new(a.coset())
+}
+
+/// Where the step is 0: only the initial indices 2^29 and 3 times 2^29 are canonic.
+fn is_canonic_with_step_0(a: &mut Args) -> Option<Vec<u64>> {
+    let half = a.coset();
+    (half.step_size.0 == 0).then(|| vec![[1 << 29, 3 << 29].contains(&half.initial_index.0).into()])
 }
 
 /// The Rust answers with a list of shifts, here written over the start of the destination.

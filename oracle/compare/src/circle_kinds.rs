@@ -1,6 +1,6 @@
 //! Kinds of argument that `circle.rs` takes: points, scalars, counts of doublings and point indices.
 
-use crate::kinds::{each, element, high_and_low, refused_if, Kind, EXTENSION_EXPONENT, P, P_2};
+use crate::kinds::{each, element, high_and_low, refused_if, Kind, EXTENSION_EXPONENT, ORDER, P, P_2};
 use common::element::{point_words, Element};
 use common::random::Random;
 use stwo::core::circle::{CirclePoint, M31_CIRCLE_GEN, SECURE_FIELD_CIRCLE_GEN};
@@ -133,16 +133,14 @@ const fn doublings<const MOST: i128>() -> Kind {
 pub const DOUBLINGS: Kind = doublings::<65536>();
 pub const SECURE_DOUBLINGS: Kind = doublings::<4096>();
 
-const LARGEST: i128 = 1 << 31;
-
 pub const INDEX: Kind = Kind {
     limits: || {
-        let good = [0, 1, 2, 3, 1 << 30, LARGEST - 2, LARGEST - 1, LARGEST];
-        let large = [LARGEST + 1, LARGEST + 2, (1 << 32) - 1, 1 << 32, 1 << 63, (1 << 64) - 1];
+        let good = [0, 1, 2, 3, 1 << 30, ORDER - 2, ORDER - 1];
+        let large = [ORDER, ORDER + 1, ORDER + 2, (1 << 32) - 1, 1 << 32, 1 << 63, (1 << 64) - 1];
         each(&[&good[..], &large[..]].concat())
     },
     draw: |random| vec![if random.one_in(4) { random.up_to_bits(64) } else { random.up_to_bits(31) }.into()],
-    refusal: |numbers| refused_if(numbers[0] > LARGEST, 4),
+    refusal: |numbers| refused_if(numbers[0] >= ORDER, 4),
 };
 
 /// An index that is halved.

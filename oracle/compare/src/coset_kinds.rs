@@ -3,10 +3,10 @@
 
 use crate::columns::dst_len;
 use crate::coset_records::{
-    altered, damage, draw_good, draw_number, draw_record, made, numbers, INDICES, LARGEST_INDEX, LARGEST_U32,
+    altered, damage, draw_good, draw_number, draw_record, made, numbers, with_step_0, INDICES, LARGEST_U32,
     LARGEST_U64, LOG_SIZE, RECORD, RECORDS, WORDS,
 };
-use crate::kinds::{each, first_refusal, refused_if, Kind, Refusal, P};
+use crate::kinds::{each, first_refusal, refused_if, Kind, Refusal, ORDER, P};
 use common::args::Args;
 use common::random::Random;
 use std::ops::RangeInclusive;
@@ -28,10 +28,10 @@ pub const HALF_ODDS_LOG_SIZE: Kind = log_size::<0, 29>();
 pub const CANONIC_LOG_SIZE: Kind = log_size::<1, 30>();
 
 fn refused_record(numbers: &[i128], log_sizes: RangeInclusive<i128>) -> Option<Refusal> {
-    let large = |places: &[usize], bound| places.iter().any(|place| numbers[*place] > bound);
+    let large = |places: &[usize], bound| places.iter().any(|place| numbers[*place] >= bound);
     refused_if(!log_sizes.contains(&numbers[LOG_SIZE]), 6)
-        .or(refused_if(large(&INDICES, LARGEST_INDEX), 4))
-        .or(refused_if(large(&WORDS, P - 1), 1))
+        .or(refused_if(large(&INDICES, ORDER), 4))
+        .or(refused_if(large(&WORDS, P), 1))
 }
 
 /// A coset, also the half coset of a circle domain.
@@ -40,6 +40,9 @@ pub const COSET: Kind = Kind {
     draw: draw_record,
     refusal: |numbers| refused_record(&numbers[..RECORD], 0..=31),
 };
+
+/// A half coset of which it is asked whether its domain is canonic.
+pub const COSET_ASKED: Kind = Kind { limits: || [&RECORDS[..], &with_step_0()].concat(), ..COSET };
 
 /// The coset of a canonic coset.
 pub const CANONIC: Kind = Kind { refusal: |numbers| refused_record(&numbers[..RECORD], 1..=30), ..COSET };
@@ -112,7 +115,7 @@ fn doublings() -> Vec<Vec<i128>> {
     made().into_iter().enumerate().map(pair).collect()
 }
 
-/// Doublings with one number changed, the other order, and subgroups, which differ by steps of 2^31 and 0.
+/// Doublings with one number changed, the other order, and the smallest subgroups, of which one has the step 0.
 fn near_doublings() -> Vec<Vec<i128>> {
     let pairs = [Coset::odds(9), Coset::half_odds(2)].map(|coset| (coset.repeated_double(2), coset));
     let changed = |(doubled, coset): (Coset, Coset)| {
@@ -134,7 +137,7 @@ fn one_less(mut numbers: Vec<i128>, place: usize) -> Vec<i128> {
 /// Each pair of a good record and three that are refused by log size, by index and by word.
 fn damaged_pairs() -> Vec<Vec<i128>> {
     let coset = Coset::half_odds(3);
-    let damages: [&[(usize, i128)]; 4] = [&[], &[(LOG_SIZE, 32)], &[(3, LARGEST_INDEX + 1)], &[(1, P)]];
+    let damages: [&[(usize, i128)]; 4] = [&[], &[(LOG_SIZE, 32)], &[(3, ORDER)], &[(1, P)]];
     let records = damages.map(|damage| altered(&coset, damage));
     records.iter().flat_map(|one| records.each_ref().map(|other| [&one[..], other].concat())).collect()
 }
@@ -209,7 +212,7 @@ fn split_limits((place, record): (usize, &Vec<i128>)) -> [Vec<i128>; 2] {
 /// The index to hand back next, the step, and how many remain.
 pub const ITERATOR: Kind = Kind {
     limits: || {
-        let indices = [0, 1, 1 << 30, LARGEST_INDEX - 1, LARGEST_INDEX, LARGEST_INDEX + 1, LARGEST_U64];
+        let indices = [0, 1, 1 << 30, ORDER - 1, ORDER, ORDER + 1, LARGEST_U64];
         let remaining = each(&[0, 1, 2, 1 << 31, LARGEST_U64]);
         let with_step = |cur: i128| indices.map(|step| vec![cur, step]);
         let with_remaining = |indices: Vec<i128>| remaining.iter().map(move |n| [&indices[..], n].concat());
@@ -220,5 +223,5 @@ pub const ITERATOR: Kind = Kind {
         let mut index = || draw_number(0, !random.one_in(8), random);
         vec![index(), index(), remaining.into()]
     },
-    refusal: |numbers| refused_if(numbers[..2].iter().any(|index| *index > LARGEST_INDEX), 4),
+    refusal: |numbers| refused_if(numbers[..2].iter().any(|index| *index >= ORDER), 4),
 };

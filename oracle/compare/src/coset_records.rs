@@ -1,12 +1,11 @@
 //! Records of seven numbers to call with: as the Rust makes them, with numbers that disagree, and with refused ones.
 
 use crate::coset::record;
-use crate::kinds::P;
+use crate::kinds::{ORDER, P};
 use common::random::Random;
 use std::sync::LazyLock;
 use stwo::core::circle::{CirclePointIndex, Coset};
 
-pub const LARGEST_INDEX: i128 = 1 << 31;
 pub const LARGEST_U32: i128 = (1 << 32) - 1;
 pub const LARGEST_U64: i128 = (1 << 64) - 1;
 
@@ -16,19 +15,23 @@ pub const WORDS: [usize; 4] = [1, 2, 4, 5];
 pub const LOG_SIZE: usize = 6;
 pub const RECORD: usize = 7;
 
+/// The numbers of a coset of the Rust, its indices read modulo 2^31.
 pub fn numbers(coset: &Coset) -> Vec<i128> {
-    record(coset).into_iter().map(i128::from).collect()
+    let mut numbers = record(coset);
+    for place in INDICES {
+        numbers[place] %= ORDER as u64;
+    }
+    numbers.into_iter().map(i128::from).collect()
 }
 
-/// Records as the Rust makes them.
+/// Records as the Rust makes them, some with the index 2^31.
 pub fn made() -> Vec<Coset> {
     let index = CirclePointIndex;
-    let largest = 1 << 31;
-    let new =
-        [(0, 0), (1, 3), (2, 5), (5, 31), (1 << 30, 8), (largest - 1, 30), (largest, 0), (largest, 4), (largest, 31)];
+    let order = ORDER as usize;
+    let new = [(0, 0), (1, 3), (2, 5), (5, 31), (1 << 30, 8), (order - 1, 30), (order, 0), (order, 4), (order, 31)];
     let doubled = [Coset::odds(8).double(), Coset::odds(30).repeated_double(29), Coset::subgroup(1).double()];
     let conjugates = [Coset::half_odds(3).conjugate(), Coset::subgroup(0).conjugate()];
-    let shifted = [Coset::odds(4).shift(index(largest)), Coset::half_odds(5).shift(index(12345))];
+    let shifted = [Coset::odds(4).shift(index(order)), Coset::half_odds(5).shift(index(12345))];
     [
         &[0, 1, 2, 3, 16, 30, 31].map(Coset::subgroup)[..],
         &[0, 1, 2, 8, 29, 30].map(Coset::odds),
@@ -58,14 +61,23 @@ fn disagreeing() -> Vec<Vec<i128>> {
         altered(&Coset::odds(3), &[(1, 0), (2, 0)]),
         altered(&Coset::odds(3), &[(4, 1), (5, 5)]),
         altered(&Coset::odds(1), &[(1, P - 1), (2, P - 1), (4, P - 1), (5, P - 1)]),
-        altered_half_odds(&[(0, LARGEST_INDEX)]),
-        altered_half_odds(&[(3, LARGEST_INDEX)]),
+        altered_half_odds(&[(0, ORDER - 1)]),
+        altered_half_odds(&[(3, ORDER - 1)]),
         altered_half_odds(&[(3, 0)]),
-        altered_half_odds(&[(0, LARGEST_INDEX - 1), (3, LARGEST_INDEX - 1)]),
+        altered_half_odds(&[(0, ORDER - 1), (3, ORDER - 1)]),
         altered_half_odds(&[(LOG_SIZE, 0)]),
         altered_half_odds(&[(LOG_SIZE, 30)]),
         altered_half_odds(&[(LOG_SIZE, 31)]),
     ]
+}
+
+/// Records of the step 0 with the indices whose fourfold is 0, and with others, of several log sizes.
+pub fn with_step_0() -> Vec<Vec<i128>> {
+    let of_quarters = |log_size| [0, 1, 2, 3].map(|quarters: i128| (quarters << 29, log_size));
+    let others = [(1, 0), ((1 << 29) + 1, 0), ((3 << 29) - 1, 0), (ORDER - 1, 0)];
+    let numbers = [of_quarters(0), of_quarters(4), of_quarters(31), others].concat();
+    let record = |(index, log_size)| altered(&Coset::subgroup(0), &[(0, index), (LOG_SIZE, log_size)]);
+    numbers.into_iter().map(record).collect()
 }
 
 /// Records with one number that is refused, and with several.
@@ -75,9 +87,9 @@ fn damaged() -> Vec<Vec<i128>> {
         (LOG_SIZE, 33),
         (LOG_SIZE, 64),
         (LOG_SIZE, LARGEST_U32),
-        (0, LARGEST_INDEX + 1),
+        (0, ORDER),
         (0, LARGEST_U64),
-        (3, LARGEST_INDEX + 1),
+        (3, ORDER),
         (3, 1 << 32),
         (1, P),
         (2, P + 1),
@@ -85,10 +97,10 @@ fn damaged() -> Vec<Vec<i128>> {
         (5, LARGEST_U32),
     ];
     let several: [&[(usize, i128)]; 6] = [
-        &[(0, LARGEST_INDEX + 1), (LOG_SIZE, 32)],
+        &[(0, ORDER), (LOG_SIZE, 32)],
         &[(1, P), (LOG_SIZE, 32)],
-        &[(1, P), (3, LARGEST_INDEX + 1)],
-        &[(2, P), (0, LARGEST_INDEX + 1)],
+        &[(1, P), (3, ORDER)],
+        &[(2, P), (0, ORDER)],
         &[(0, LARGEST_U64), (1, P), (LOG_SIZE, 40)],
         &[(0, 1 << 63), (1, P), (2, P), (3, 1 << 63), (4, P), (5, P), (LOG_SIZE, LARGEST_U32)],
     ];
@@ -102,7 +114,7 @@ pub static RECORDS: LazyLock<Vec<Vec<i128>>> =
 /// A number for a place of a record, in its range or above it.
 pub fn draw_number(place: usize, good: bool, random: &mut Random) -> i128 {
     let (most, bits) = match place {
-        0 | 3 => (LARGEST_INDEX, 64),
+        0 | 3 => (ORDER - 1, 64),
         LOG_SIZE => (31, 32),
         _ => (P - 1, 32),
     };

@@ -5,6 +5,9 @@ use common::random::Random;
 
 pub const P: i128 = 2147483647;
 
+/// The order of G: point indices are below it.
+pub const ORDER: i128 = 1 << 31;
+
 pub struct Kind {
     /// The numbers about the ends of the range, good ones and damaged ones.
     pub limits: fn() -> Vec<Vec<i128>>,

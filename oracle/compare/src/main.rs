@@ -81,7 +81,8 @@ fn record_all(folder: &Path, seed: u64) -> Result<(), String> {
         let functions = entries.iter().map(function).collect::<Result<Vec<_>, _>>()?;
         let slices = functions.iter().any(|function| function.slices());
         let free = entries.iter().any(|entry| entry.free.is_some());
-        let mut text = record::header(module, slices, free, seed);
+        let indices = functions.iter().any(|function| !function.indices.is_empty());
+        let mut text = record::header(module, slices, free, indices, seed);
         for (entry, function) in entries.iter().zip(functions) {
             text += &record::lines(entry, function, seed, *share)?;
         }

@@ -10,7 +10,7 @@ use common::random::Random;
 const MOST_NUMBERS: usize = 64;
 
 /// What the list is and how it was made.
-pub fn header(module: &str, slices: bool, free: bool, seed: u64) -> String {
+pub fn header(module: &str, slices: bool, free: bool, indices: bool, seed: u64) -> String {
     let text = format!(
         "# Answers of the functions with C linkage: {module}.\n\
          # Recorded by `oracle/` with seed {seed}, beside the Rust of starkware-libs/stwo, commit 826591c6c3.\n\
@@ -21,7 +21,12 @@ pub fn header(module: &str, slices: bool, free: bool, seed: u64) -> String {
     let slice =
         "# A slice is its length and then its words; a destination's words, as the call leaves them, are values.\n";
     let scratch = "# Where NUMBER is 0, the first words of scratch end as anything: they are recorded as they were.\n";
-    text + if slices { slice } else { "" } + if free { scratch } else { "" }
+    let reduced =
+        "# Point indices are below 2^31, and those of the Rust are read modulo 2^31. Where a step index is 0,\n\
+         # is_canonic and is_doubling_of have the answers of their definitions, not the Rust's.\n\
+         # Recorded anew for version 2 of the interface. Lines of version 1 that no longer hold take or answer with\n\
+         # the index 2^31, or are is_canonic's of index and step 0: they are retired, or have the new answer.\n";
+    text + if slices { slice } else { "" } + if free { scratch } else { "" } + if indices { reduced } else { "" }
 }
 
 /// The lines of a function, about `share` bytes at most; an error where the library doesn't answer as it should.

@@ -1,11 +1,9 @@
 //! Whole walks: the library's iterators from their start until they are done, beside the Rust's. The entries compare
 //! steps one by one; here a step starts from what the one before it left.
 
-use crate::check::Tally;
-use crate::coset::record;
-use crate::coset_records::draw_made;
-use common::args::Args;
-use common::library::FUNCTIONS;
+use crate::check::{call, Tally};
+use crate::coset_records::{draw_made, numbers};
+use crate::kinds::ORDER;
 use common::random::Random;
 use stwo::core::circle::{CirclePointIndex, Coset};
 use stwo::core::poly::circle::CircleDomain;
@@ -20,7 +18,7 @@ pub struct Walk {
     pub name: &'static str,
     start: &'static str,
     next: &'static str,
-    rust: fn(&Coset) -> Vec<u64>,
+    rust: fn(&Coset) -> Vec<i128>,
 }
 
 pub const WALKS: [Walk; 2] = [
@@ -38,8 +36,9 @@ pub const WALKS: [Walk; 2] = [
     },
 ];
 
-fn indices(iterator: impl Iterator<Item = CirclePointIndex>) -> Vec<u64> {
-    iterator.map(|index| index.0 as u64).collect()
+/// The Rust's indices, read modulo 2^31.
+fn indices(iterator: impl Iterator<Item = CirclePointIndex>) -> Vec<i128> {
+    iterator.map(|index| index.0 as i128 % ORDER).collect()
 }
 
 pub fn check_walk(walk: &Walk, seed: u64) -> Tally {
@@ -50,7 +49,7 @@ pub fn check_walk(walk: &Walk, seed: u64) -> Tally {
         tally.compared += 1;
         if walked(walk, &coset, expected.len() + 1) != expected {
             tally.different += 1;
-            println!("{}: the indices differ on {:?}", walk.name, record(&coset));
+            println!("{}: the indices differ on {:?}", walk.name, numbers(&coset));
         }
     }
     tally
@@ -68,8 +67,8 @@ fn records(log_size: u32, random: &mut Random) -> Vec<Coset> {
 }
 
 /// The indices of the library until it is done, `most` of them at most.
-fn walked(walk: &Walk, coset: &Coset, most: usize) -> Vec<u64> {
-    let mut iterator = call(walk.start, &record(coset));
+fn walked(walk: &Walk, coset: &Coset, most: usize) -> Vec<i128> {
+    let mut iterator = call(walk.start, &numbers(coset));
     let mut indices = Vec::new();
     while indices.len() < most {
         let step = call(walk.next, &iterator);
@@ -80,11 +79,4 @@ fn walked(walk: &Walk, coset: &Coset, most: usize) -> Vec<u64> {
         iterator = step[2..].to_vec();
     }
     indices
-}
-
-/// The values of a call.
-fn call(name: &str, numbers: &[u64]) -> Vec<u64> {
-    let function = FUNCTIONS.iter().find(|function| function.name == name).expect("the header declares it");
-    let numbers: Vec<i128> = numbers.iter().map(|number| i128::from(*number)).collect();
-    (function.call)(&mut Args(numbers.iter())).values
 }

@@ -1,5 +1,6 @@
 //! A function of the header with its entry in `compare`.
 
+use common::args::Answer;
 use common::library::Function;
 use compare::check::answers;
 use compare::entry::Entry;
@@ -85,11 +86,11 @@ impl Call {
         }
     }
 
-    /// The library's answer must be the refusal, or where the input is accepted the answer that `compare` expects.
-    pub fn check_library(&self, numbers: &[i128]) -> Result<(), String> {
+    /// The library's answer, which must be the refusal, or where the input is accepted the answer that `compare` expects.
+    pub fn library(&self, numbers: &[i128]) -> Result<Answer, String> {
         let pair = answers(self.entry, self.function, &self.input(numbers));
         if pair.library == pair.expected {
-            return Ok(());
+            return Ok(pair.library);
         }
         let (name, library, expected) = (self.entry.name, pair.library, pair.expected);
         Err(format!("the library answers {name} of {numbers:?} with {library:?}, expected was {expected:?}"))

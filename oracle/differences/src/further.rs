@@ -41,7 +41,14 @@ const fn remarked(function: &'static str, arguments: Arguments, remark: &'static
 }
 
 /// The least index that is refused.
-const INDEX: i128 = (1 << 31) + 1;
+const INDEX: i128 = 1 << 31;
+/// The least offset above its range.
+const OFFSET: i128 = (1 << 31) + 1;
+
+/// Remarks on accepted inputs.
+const STEP_0: &str = "the library's step index is 0";
+const ANSWERS_0: &str = "the library answers 0";
+
 const LARGEST_U32: i128 = (1 << 32) - 1;
 const LARGEST_U64: i128 = (1 << 64) - 1;
 
@@ -101,8 +108,11 @@ pub const FURTHER: &[Further] = &[
     ),
     input("secure_point_conjugate", &[("x0", &[P])]),
     input("secure_point_antipode", &[("x0", &[P])]),
+    remarked("index_subgroup_gen", &[], ANSWERS_0),
     input("index_half", &[("index", &[INDEX + 1])]),
     input("index_sub", &[("a", &[INDEX])]),
+    input("index_sub", &[("b", &[INDEX + 1])]),
+    input("index_neg", &[("index", &[INDEX + 1])]),
     input("index_mul", &[("index", &[INDEX]), ("count", &[1])]),
     remarked("bit_reverse_index", &[("i", &[1]), ("log_size", &[65])], "the log size is taken modulo 64"),
     input("bit_reverse", &[("v", &[1, 2, 3])]),
@@ -121,7 +131,7 @@ pub const FURTHER: &[Further] = &[
     ),
     input(
         "offset_bit_reversed_circle_domain_index",
-        &[("domain_log_size", &[1]), ("eval_log_size", &[2]), ("offset", &[-INDEX])],
+        &[("domain_log_size", &[1]), ("eval_log_size", &[2]), ("offset", &[-OFFSET])],
     ),
     input(
         "offset_bit_reversed_circle_domain_index",
@@ -142,6 +152,10 @@ pub const FURTHER: &[Further] = &[
     input("circle_domain_order_to_coset_order", &[("values", &[1, 2, 3]), ("dst", &[0, 0, 0])]),
     input("circle_domain_order_to_coset_order", &[("values", &[1, 2, 3, 4, 5]), ("dst", &[0, 0, 0, 0, 0])]),
     input("circle_domain_order_to_coset_order", &[("values", &[1, 2]), ("dst", &[0])]),
+    remarked("coset_new", &[], STEP_0),
+    remarked("coset_subgroup", &[], STEP_0),
+    remarked("coset_odds", &[], STEP_0),
+    remarked("coset_half_odds", &[], STEP_0),
     input("coset_size", &[("log_size", &[64])]),
     input("coset_size", &[("initial_index", &[INDEX])]),
     input("coset_iter_indices", &[("log_size", &[64])]),
@@ -153,10 +167,7 @@ pub const FURTHER: &[Further] = &[
     input("coset_repeated_double", &[("initial_x", &[P])]),
     input("coset_is_doubling_of", &[("log_size", &[32]), ("other_log_size", &[32])]),
     input("coset_is_doubling_of", &[("initial_index", &[INDEX]), ("other_initial_index", &[INDEX])]),
-    input(
-        "coset_is_doubling_of",
-        &[("initial_index", &[2]), ("other_initial_index", &[INDEX]), ("other_log_size", &[1])],
-    ),
+    input("coset_is_doubling_of", &[("other_initial_index", &[INDEX]), ("other_log_size", &[1])]),
     input("coset_is_doubling_of", &[("initial_x", &[P]), ("other_initial_x", &[P])]),
     remarked("coset_is_doubling_of", &[("initial_x", &[P])], "equal modulo P"),
     input("coset_initial", &[("initial_x", &[P])]),
@@ -170,6 +181,7 @@ pub const FURTHER: &[Further] = &[
     input("coset_shift", &[("initial_index", &[1]), ("shift_size", &[LARGEST_U64])]),
     input("coset_shift", &[("step_x", &[P])]),
     input("coset_conjugate", &[("initial_index", &[INDEX])]),
+    input("coset_conjugate", &[("step_index", &[INDEX + 1])]),
     input("coset_iterator_next", &[("cur", &[INDEX])]),
     input("coset_iterator_next", &[("cur", &[INDEX]), ("remaining", &[1])]),
     input("coset_iterator_next", &[("step", &[INDEX]), ("remaining", &[1])]),
@@ -177,7 +189,9 @@ pub const FURTHER: &[Further] = &[
     input("canonic_coset_try_new", &[("log_size", &[31])]),
     input("canonic_coset_new", &[("log_size", &[31])]),
     input("canonic_coset_coset", &[("log_size", &[31])]),
+    remarked("canonic_coset_half_coset", &[("log_size", &[1])], STEP_0),
     input("canonic_coset_half_coset", &[("log_size", &[31])]),
+    remarked("canonic_coset_circle_domain", &[("log_size", &[1])], STEP_0),
     input("canonic_coset_circle_domain", &[("log_size", &[31])]),
     input("canonic_coset_log_size", &[("log_size", &[31])]),
     input("canonic_coset_size", &[("log_size", &[31])]),
@@ -192,6 +206,7 @@ pub const FURTHER: &[Further] = &[
     input("canonic_coset_at", &[("initial_index", &[INDEX]), ("log_size", &[1])]),
     input("circle_domain_new", &[("initial_index", &[INDEX])]),
     input("circle_domain_iter_indices", &[("initial_index", &[INDEX])]),
+    input("circle_domain_iter_indices", &[("initial_index", &[INDEX + 1])]),
     input("circle_domain_iter_indices", &[("step_index", &[INDEX]), ("log_size", &[1])]),
     input("circle_domain_size", &[("log_size", &[63])]),
     input("circle_domain_log_size", &[("log_size", &[LARGEST_U32])]),
@@ -205,8 +220,11 @@ pub const FURTHER: &[Further] = &[
     ),
     input("circle_domain_index_at", &[("initial_index", &[INDEX])]),
     input("circle_domain_index_at", &[("initial_index", &[INDEX]), ("i", &[1])]),
-    input("circle_domain_is_canonic", &[("initial_index", &[INDEX]), ("step_index", &[4])]),
+    remarked("circle_domain_is_canonic", &[], ANSWERS_0),
+    remarked("circle_domain_is_canonic", &[("initial_index", &[1 << 30])], ANSWERS_0),
+    input("circle_domain_is_canonic", &[("initial_index", &[INDEX])]),
     input("circle_domain_is_canonic", &[("initial_x", &[P])]),
+    remarked("circle_domain_split", &[("shifts", &[0])], STEP_0),
     input("circle_domain_split", &[("log_size", &[32]), ("log_parts", &[1]), ("shifts", &[0, 0])]),
     input("circle_domain_split", &[("initial_index", &[INDEX]), ("shifts", &[0])]),
     input(

@@ -1,6 +1,7 @@
-//! Runs the Rust of stwo on inputs that the library refuses, and holds docs/DIFFERENCES.md to what it does.
+//! Runs the Rust of stwo where the library refuses or answers otherwise, and holds docs/DIFFERENCES.md to what it does.
 
 mod call;
+mod chains;
 mod document;
 mod further;
 mod process;

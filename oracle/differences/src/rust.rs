@@ -68,7 +68,7 @@ fn only_destination_refused(call: &Call, numbers: &[i128]) -> bool {
 }
 
 /// One value, or several in parentheses.
-fn shown(values: &[u64]) -> String {
+pub fn shown(values: &[u64]) -> String {
     match values {
         [value] => value.to_string(),
         _ => format!("({})", values.iter().map(u64::to_string).collect::<Vec<_>>().join(", ")),

@@ -1,8 +1,11 @@
-//! The tables of the document: by module, the smallest input of every refusal of every call, and further inputs.
+//! The tables of the document: by module, the smallest input of every refusal of every call, and further inputs; then
+//! chains of calls.
 
 use crate::call::Call;
+use crate::chains;
 use crate::further::{Further, FURTHER};
 use crate::process::Builds;
+use crate::rust::shown;
 use crate::smallest::smallest;
 use compare::entry::Entry;
 use compare::kinds::Refusal;
@@ -33,7 +36,8 @@ pub fn tables(builds: &Builds) -> Result<String, String> {
     for Further { function, .. } in FURTHER {
         Call::named(function)?;
     }
-    MODULES.iter().map(|(module, entries, _)| section(module, entries, builds)).collect()
+    let sections = MODULES.iter().map(|(module, entries, _)| section(module, entries, builds));
+    sections.chain([chains::table()]).collect()
 }
 
 fn section(module: &str, entries: &'static [Entry], builds: &Builds) -> Result<String, String> {
@@ -79,14 +83,16 @@ fn further_rows(call: &Call, builds: &Builds) -> Result<String, String> {
     of_call.map(row).collect()
 }
 
-/// A row for an input, of which the library must say what the document says.
+/// A row for an input, of which the library must say what the document says. Where the input is accepted, the Rust must
+/// do otherwise.
 fn row(call: &Call, numbers: &[i128], builds: &Builds) -> Result<String, String> {
-    call.check_library(numbers)?;
+    let library = shown(&call.library(numbers)?.values);
+    let rust = builds.answer(call.entry.name, numbers)?;
     let refusal = match call.refusal(numbers) {
         Some(Refusal { number, position: 0 }) => number.to_string(),
         Some(Refusal { number, position }) => format!("{number} at {position}"),
+        None if rust == library => return Err(format!("{} of {numbers:?} is {rust} on both sides", call.entry.name)),
         None => "none".to_string(),
     };
-    let rust = builds.answer(call.entry.name, numbers)?;
     Ok(format!("| {} | {} | {refusal} | {rust} |", quoted(call), call.named_arguments(numbers)))
 }

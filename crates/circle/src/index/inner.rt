@@ -1,6 +1,6 @@
 // Point indices that are known to be in range: what the layers above compute with. These are no public calls.
 ghost use mathlib.Core.Path.{_≡_};
-ghost use Prim.Native.Nat.{_+_, _-_, _*_, _%_, _^_, _≤_, _<_};
+ghost use Prim.Native.Nat.{_+_, _-_, _*_, _%_, _^_, _≤_};
 ghost use Rattle.circle.specs.Point.{pointOf, Reduced};
 ghost use Rattle.circle.specs.Index.{IsIndex, isIndex, indexPoint, subgroupGen, negIndex};
 use crate::index::CirclePointIndex;
@@ -13,18 +13,15 @@ use crate::point_table::constant::points;
 use crate::point_table::inner::entry;
 use fields::log_size::inner::two_to;
 
-// the order of G, 2^31
+// the order of G, 2^31; an index is below it
 const ORDER: u64 = 2147483648;
-
-// the largest index, which has the point of 0
-const MOST: u64 = 2147483648;
 
 const TWO_POW_32: u64 = 4294967296;
 
 pub fn is_index(k: CirclePointIndex) -> bool
     ensures { λ r. ⌜ r ≡ isIndex k ⌝ }
 {
-    k.0 <= MOST
+    k.0 < ORDER
 }
 
 // The index of n times G.
@@ -44,7 +41,7 @@ pub fn subgroup_gen(log_size: u32) -> CirclePointIndex
     requires { ⌜ «log_size» ≤ 31 ⌝ }
     ensures { λ r. ⌜ r .0 ≡ subgroupGen «log_size» ⌝ }
 {
-    CirclePointIndex(two_to(M31_CIRCLE_LOG_ORDER - log_size))
+    modulo_order(two_to(M31_CIRCLE_LOG_ORDER - log_size))
 }
 
 pub fn add(j: CirclePointIndex, k: CirclePointIndex) -> CirclePointIndex
@@ -87,9 +84,9 @@ pub fn mul(k: CirclePointIndex, count: u64) -> CirclePointIndex
     modulo_order(wrapping_mul(k.0, count))
 }
 
-// The point of an index below 2^31: the sum of the points of its digits.
-fn look_up(k: CirclePointIndex) -> CirclePoint
-    requires { ⌜ k .0 < 2 ^ 31 ⌝ }
+// The sum of the points of its digits.
+pub fn to_point(k: CirclePointIndex) -> CirclePoint
+    requires { ⌜ IsIndex k ⌝ }
     ensures { λ r. ⌜ (pointOf r ≡ indexPoint (k .0)) × Reduced r ⌝ }
 {
     let table = points();
@@ -102,11 +99,4 @@ fn look_up(k: CirclePointIndex) -> CirclePoint
         window += 1;
     }
     sum
-}
-
-pub fn to_point(k: CirclePointIndex) -> CirclePoint
-    requires { ⌜ IsIndex k ⌝ }
-    ensures { λ r. ⌜ (pointOf r ≡ indexPoint (k .0)) × Reduced r ⌝ }
-{
-    look_up(reduce(k))
 }

@@ -1,7 +1,5 @@
 use borrow.Author.Needs.{needs}
-use Prim.Native.Nat.{ℕ}
 use mathlib.Core.Path.{ap}
-use lib.Dec.{eqb}
 use Rattle.fields.specs.CheckLaws.{at-refused, at-passed}
 use Rattle.fields.specs.declared.answer.BoolAnswer.the-variants.{Value}
 use Rattle.domains.specs.Domain.{isCanonicAnswer}
@@ -22,16 +20,15 @@ returns c = at-refused (check _) _ _ _ _ (c .before .before .before .check .ensu
 enum-told : tie.Need-enum-told
 enum-told c = search needs
 
-mul-requires : tie.Need-mul-requires
-mul-requires c κs = search needs
+is-canonic-requires : tie.Need-is-canonic-requires
+is-canonic-requires c κs = search needs
 
 returns-2 : tie.Need-returns-2
 unfolding isCanonicAnswer
 returns-2 c =
-    at-passed (check _) _ _ _ _ (c .before .before .before .before .before .check .ensures) (c .before .before .before .enum-told .given .1)
-    (ap (λ (t : ℕ). Value (eqb t (c .before .before .before .before .before .before .before .args .self .«half_coset» .«step_size» .0)))
-    (c .before .before .mul .ensures))
+    at-passed (check _) _ _ _ _ (c .before .before .before .check .ensures) (c .before .enum-told .given .1)
+    (ap Value (c .is-canonic .ensures))
 
 pub is-canonic-spec : {M : Type 1} → statement M
 is-canonic-spec =
-    tie.close (tie.spec check-requires enum-known-record returns enum-told mul-requires returns-2)
+    tie.close (tie.spec check-requires enum-known-record returns enum-told is-canonic-requires returns-2)
