@@ -23,7 +23,8 @@ extern "C" {
 
 /* ---- The numbers of refusals ----
  *
- * In the order in which a call checks. */
+ * In the order in which a call checks. A coset is checked wholly, for 6, 4, 1 and 14, before anything else about the
+ * call, and a second coset after the first. */
 
 #define TARI_ACCEPTED 0
 /* A log size is outside its range. */
@@ -38,6 +39,8 @@ extern "C" {
 #define TARI_REFUSED_CHUNK 9
 /* A word isn't below P; position: the lowest such word of the slice, counted in words. */
 #define TARI_REFUSED_WORD 1
+/* The initial or the step point of a coset isn't the point of its index. */
+#define TARI_REFUSED_CONTRADICTION 14
 /* A number is too large to reduce. */
 #define TARI_REFUSED_REDUCTION 2
 /* Zero has no inverse; position: the first zero element of the column, counted in elements. */
@@ -89,7 +92,7 @@ typedef struct {
  *
  * Raised with every change of a declaration of the header or of an answer. */
 
-#define TARI_VERSION 2
+#define TARI_VERSION 3
 
 /* TARI_VERSION of the library, to be compared with the header's. Never refuses. */
 tari_u32_reply tari_version(void);
@@ -437,7 +440,7 @@ tari_write_reply tari_circle_domain_order_to_coset_order(
 /* ---- Cosets ----
  *
  * A coset is passed and answered as seven numbers: the index and the point (x, y) of its first element, the index and
- * the point of the step between its elements, and the log size, 0 to 31, of its 2^log_size elements. A point needn't be
+ * the point of the step between its elements, and the log size, 0 to 31, of its 2^log_size elements. Each point must be
  * that of its index. An iterator is the index to hand back next, the step and how many remain; the reply to its next
  * step has done 0, the index and the iterator after it, or done 1, index 0 and the iterator as it was. */
 
@@ -449,50 +452,51 @@ tari_coset_reply tari_coset_subgroup(uint32_t log_size);
 tari_coset_reply tari_coset_odds(uint32_t log_size);
 /* The coset from subgroup_gen(log_size + 2) on, with step subgroup_gen(log_size), of log size 0 to 29. Refuses 6. */
 tari_coset_reply tari_coset_half_odds(uint32_t log_size);
-/* 2^log_size. Refuses 6, 4, 1. */
+/* 2^log_size. Refuses 6, 4, 1, 14. */
 tari_u64_reply tari_coset_size(
     uint64_t initial_index, uint32_t initial_x, uint32_t initial_y, uint64_t step_index, uint32_t step_x,
     uint32_t step_y, uint32_t log_size);
-/* The log size. Refuses 6, 4, 1. */
+/* The log size. Refuses 6, 4, 1, 14. */
 tari_u32_reply tari_coset_log_size(
     uint64_t initial_index, uint32_t initial_x, uint32_t initial_y, uint64_t step_index, uint32_t step_x,
     uint32_t step_y, uint32_t log_size);
-/* The iterator over the indices: from the initial index, by the step, as many as the size. Refuses 6, 4, 1. */
+/* The iterator over the indices: from the initial index, by the step, as many as the size. Refuses 6, 4, 1, 14. */
 tari_coset_iterator_reply tari_coset_iter_indices(
     uint64_t initial_index, uint32_t initial_x, uint32_t initial_y, uint64_t step_index, uint32_t step_x,
     uint32_t step_y, uint32_t log_size);
-/* Both indices doubled modulo 2^31, both points doubled, the log size one less. Refuses 6, 4, 1, 7. */
+/* Both indices doubled modulo 2^31, both points doubled, the log size one less. Refuses 6, 4, 1, 14, 7. */
 tari_coset_reply tari_coset_double(
     uint64_t initial_index, uint32_t initial_x, uint32_t initial_y, uint64_t step_index, uint32_t step_x,
     uint32_t step_y, uint32_t log_size);
-/* The coset doubled n_doubles times, no more than its log size. Refuses 6, 4, 1, 7. */
+/* The coset doubled n_doubles times, no more than its log size. Refuses 6, 4, 1, 14, 7. */
 tari_coset_reply tari_coset_repeated_double(
     uint64_t initial_index, uint32_t initial_x, uint32_t initial_y, uint64_t step_index, uint32_t step_x,
     uint32_t step_y, uint32_t log_size, uint32_t n_doubles);
-/* 1 where the first coset equals the other, doubled as often as their log sizes differ, in every field, else 0.
- * Refuses 6, 4, 1. */
+/* 1 where the first coset equals the other, doubled as often as their log sizes differ, in every field, else 0. The
+ * first is checked wholly before the other. Refuses 6, 4, 1, 14. */
 tari_bool_reply tari_coset_is_doubling_of(
     uint64_t initial_index, uint32_t initial_x, uint32_t initial_y, uint64_t step_index, uint32_t step_x,
     uint32_t step_y, uint32_t log_size, uint64_t other_initial_index, uint32_t other_initial_x,
     uint32_t other_initial_y, uint64_t other_step_index, uint32_t other_step_x, uint32_t other_step_y,
     uint32_t other_log_size);
-/* The initial point of the record. Refuses 6, 4, 1. */
+/* The initial point of the record. Refuses 6, 4, 1, 14. */
 tari_point_reply tari_coset_initial(
     uint64_t initial_index, uint32_t initial_x, uint32_t initial_y, uint64_t step_index, uint32_t step_x,
     uint32_t step_y, uint32_t log_size);
-/* initial_index + i times step_index, modulo 2^31, for any i. Refuses 6, 4, 1. */
+/* initial_index + i times step_index, modulo 2^31, for any i. Refuses 6, 4, 1, 14. */
 tari_index_reply tari_coset_index_at(
     uint64_t initial_index, uint32_t initial_x, uint32_t initial_y, uint64_t step_index, uint32_t step_x,
     uint32_t step_y, uint32_t log_size, uint64_t i);
-/* The point of the index initial_index + i times step_index, modulo 2^31, for any i. Refuses 6, 4, 1. */
+/* The point of the index initial_index + i times step_index, modulo 2^31, for any i. Refuses 6, 4, 1, 14. */
 tari_point_reply tari_coset_at(
     uint64_t initial_index, uint32_t initial_x, uint32_t initial_y, uint64_t step_index, uint32_t step_x,
     uint32_t step_y, uint32_t log_size, uint64_t i);
-/* The coset moved by the index shift_size: its initial index and the point of it. The step stays. Refuses 6, 4, 1. */
+/* The coset moved by the index shift_size: its initial index and the point of it. The step stays. shift_size is checked
+ * last. Refuses 6, 4, 1, 14, 4. */
 tari_coset_reply tari_coset_shift(
     uint64_t initial_index, uint32_t initial_x, uint32_t initial_y, uint64_t step_index, uint32_t step_x,
     uint32_t step_y, uint32_t log_size, uint64_t shift_size);
-/* The coset of the negative indices, with their points. Refuses 6, 4, 1. */
+/* The coset of the negative indices, with their points. Refuses 6, 4, 1, 14. */
 tari_coset_reply tari_coset_conjugate(
     uint64_t initial_index, uint32_t initial_x, uint32_t initial_y, uint64_t step_index, uint32_t step_x,
     uint32_t step_y, uint32_t log_size);
@@ -507,43 +511,43 @@ tari_coset_step_reply tari_coset_iterator_next(uint64_t cur, uint64_t step, uint
 tari_coset_reply tari_canonic_coset_try_new(uint32_t log_size);
 /* The canonic coset of log size 1 to 30, odds(log_size); it refuses as try_new does. Refuses 6. */
 tari_coset_reply tari_canonic_coset_new(uint32_t log_size);
-/* The record's coset. Refuses 6, 4, 1. */
+/* The record's coset. Refuses 6, 4, 1, 14. */
 tari_coset_reply tari_canonic_coset_coset(
     uint64_t initial_index, uint32_t initial_x, uint32_t initial_y, uint64_t step_index, uint32_t step_x,
     uint32_t step_y, uint32_t log_size);
-/* half_odds(log_size - 1), by the log size alone. Refuses 6, 4, 1. */
+/* half_odds(log_size - 1), by the log size alone. Refuses 6, 4, 1, 14. */
 tari_coset_reply tari_canonic_coset_half_coset(
     uint64_t initial_index, uint32_t initial_x, uint32_t initial_y, uint64_t step_index, uint32_t step_x,
     uint32_t step_y, uint32_t log_size);
-/* The canonic circle domain of log_size, as its half coset half_odds(log_size - 1). Refuses 6, 4, 1. */
+/* The canonic circle domain of log_size, as its half coset half_odds(log_size - 1). Refuses 6, 4, 1, 14. */
 tari_coset_reply tari_canonic_coset_circle_domain(
     uint64_t initial_index, uint32_t initial_x, uint32_t initial_y, uint64_t step_index, uint32_t step_x,
     uint32_t step_y, uint32_t log_size);
-/* The log size. Refuses 6, 4, 1. */
+/* The log size. Refuses 6, 4, 1, 14. */
 tari_u32_reply tari_canonic_coset_log_size(
     uint64_t initial_index, uint32_t initial_x, uint32_t initial_y, uint64_t step_index, uint32_t step_x,
     uint32_t step_y, uint32_t log_size);
-/* 2^log_size. Refuses 6, 4, 1. */
+/* 2^log_size. Refuses 6, 4, 1, 14. */
 tari_u64_reply tari_canonic_coset_size(
     uint64_t initial_index, uint32_t initial_x, uint32_t initial_y, uint64_t step_index, uint32_t step_x,
     uint32_t step_y, uint32_t log_size);
-/* The initial index of the record. Refuses 6, 4, 1. */
+/* The initial index of the record. Refuses 6, 4, 1, 14. */
 tari_index_reply tari_canonic_coset_initial_index(
     uint64_t initial_index, uint32_t initial_x, uint32_t initial_y, uint64_t step_index, uint32_t step_x,
     uint32_t step_y, uint32_t log_size);
-/* The step index of the record. Refuses 6, 4, 1. */
+/* The step index of the record. Refuses 6, 4, 1, 14. */
 tari_index_reply tari_canonic_coset_step_size(
     uint64_t initial_index, uint32_t initial_x, uint32_t initial_y, uint64_t step_index, uint32_t step_x,
     uint32_t step_y, uint32_t log_size);
-/* The step point of the record. Refuses 6, 4, 1. */
+/* The step point of the record. Refuses 6, 4, 1, 14. */
 tari_point_reply tari_canonic_coset_step(
     uint64_t initial_index, uint32_t initial_x, uint32_t initial_y, uint64_t step_index, uint32_t step_x,
     uint32_t step_y, uint32_t log_size);
-/* initial_index + i times step_index, modulo 2^31, for any i. Refuses 6, 4, 1. */
+/* initial_index + i times step_index, modulo 2^31, for any i. Refuses 6, 4, 1, 14. */
 tari_index_reply tari_canonic_coset_index_at(
     uint64_t initial_index, uint32_t initial_x, uint32_t initial_y, uint64_t step_index, uint32_t step_x,
     uint32_t step_y, uint32_t log_size, uint64_t i);
-/* The point of the index initial_index + i times step_index, modulo 2^31, for any i. Refuses 6, 4, 1. */
+/* The point of the index initial_index + i times step_index, modulo 2^31, for any i. Refuses 6, 4, 1, 14. */
 tari_point_reply tari_canonic_coset_at(
     uint64_t initial_index, uint32_t initial_x, uint32_t initial_y, uint64_t step_index, uint32_t step_x,
     uint32_t step_y, uint32_t log_size, uint64_t i);
@@ -553,42 +557,44 @@ tari_point_reply tari_canonic_coset_at(
  * Each as its half coset, of log size 0 to 31: its elements and then their conjugates, 2^(log_size + 1) in all. The
  * iterator is the half coset's and then the conjugate's. */
 
-/* The domain of a half coset: the record itself. Refuses 6, 4, 1. */
+/* The domain of a half coset: the record itself. Refuses 6, 4, 1, 14. */
 tari_coset_reply tari_circle_domain_new(
     uint64_t initial_index, uint32_t initial_x, uint32_t initial_y, uint64_t step_index, uint32_t step_x,
     uint32_t step_y, uint32_t log_size);
-/* The iterator over the indices: the half coset's, then its conjugate's. Refuses 6, 4, 1. */
+/* The iterator over the indices: the half coset's, then its conjugate's. Refuses 6, 4, 1, 14. */
 tari_circle_domain_index_iterator_reply tari_circle_domain_iter_indices(
     uint64_t initial_index, uint32_t initial_x, uint32_t initial_y, uint64_t step_index, uint32_t step_x,
     uint32_t step_y, uint32_t log_size);
-/* 2^(log_size + 1). Refuses 6, 4, 1. */
+/* 2^(log_size + 1). Refuses 6, 4, 1, 14. */
 tari_u64_reply tari_circle_domain_size(
     uint64_t initial_index, uint32_t initial_x, uint32_t initial_y, uint64_t step_index, uint32_t step_x,
     uint32_t step_y, uint32_t log_size);
-/* log_size + 1. Refuses 6, 4, 1. */
+/* log_size + 1. Refuses 6, 4, 1, 14. */
 tari_u32_reply tari_circle_domain_log_size(
     uint64_t initial_index, uint32_t initial_x, uint32_t initial_y, uint64_t step_index, uint32_t step_x,
     uint32_t step_y, uint32_t log_size);
-/* The point of the domain's index at i, for any i. Refuses 6, 4, 1. */
+/* The point of the domain's index at i, for any i. Refuses 6, 4, 1, 14. */
 tari_point_reply tari_circle_domain_at(
     uint64_t initial_index, uint32_t initial_x, uint32_t initial_y, uint64_t step_index, uint32_t step_x,
     uint32_t step_y, uint32_t log_size, uint64_t i);
-/* The half coset's index at i, from its size s on the negative of its index at i - s, for any i. Refuses 6, 4, 1. */
+/* The half coset's index at i, from its size s on the negative of its index at i - s, for any i.
+ * Refuses 6, 4, 1, 14. */
 tari_index_reply tari_circle_domain_index_at(
     uint64_t initial_index, uint32_t initial_x, uint32_t initial_y, uint64_t step_index, uint32_t step_x,
     uint32_t step_y, uint32_t log_size, uint64_t i);
 /* 1 where 4 times the initial index, modulo 2^31, equals the step index, else 0. Where the step index is 0, 1 only for
- * the initial indices 2^29 and 3 times 2^29, whatever the log size. So 1 for every canonic domain. Refuses 6, 4, 1. */
+ * the initial indices 2^29 and 3 times 2^29, whatever the log size. So 1 for every canonic domain.
+ * Refuses 6, 4, 1, 14. */
 tari_bool_reply tari_circle_domain_is_canonic(
     uint64_t initial_index, uint32_t initial_x, uint32_t initial_y, uint64_t step_index, uint32_t step_x,
     uint32_t step_y, uint32_t log_size);
 /* Answers with the domain of coset_new(initial_index, log_size - log_parts), the first of 2^log_parts parts. Word i
  * of shifts becomes i times step_index modulo 2^31, for i below 2^log_parts: the shift that gives part i. Words past
- * them stay. Refuses 6, 4, 1, 7, 8. */
+ * them stay. Refuses 6, 4, 1, 14, 7, 8. */
 tari_coset_reply tari_circle_domain_split(
     uint64_t initial_index, uint32_t initial_x, uint32_t initial_y, uint64_t step_index, uint32_t step_x,
     uint32_t step_y, uint32_t log_size, uint32_t log_parts, uint32_t *shifts, uint64_t shifts_len);
-/* The domain of the half coset moved by the index shift. Refuses 6, 4, 1. */
+/* The domain of the half coset moved by the index shift, which is checked last. Refuses 6, 4, 1, 14, 4. */
 tari_coset_reply tari_circle_domain_shift(
     uint64_t initial_index, uint32_t initial_x, uint32_t initial_y, uint64_t step_index, uint32_t step_x,
     uint32_t step_y, uint32_t log_size, uint64_t shift);

@@ -35,7 +35,7 @@ impl CanonicCoset {
         answer(call!(tari_canonic_coset_new(number log_size))).map(|coset| CanonicCoset { coset })
     }
 
-    /// This coset as a canonic one. Its indices and points aren't looked at.
+    /// This coset as a canonic one. Whether it is [`Coset::odds`] of its log size isn't looked at.
     ///
     /// Refuses a log size outside 1 to 30 with 6.
     pub fn from_coset(coset: Coset) -> Result<CanonicCoset, Refusal> {

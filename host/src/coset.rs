@@ -5,8 +5,8 @@ use crate::{CirclePoint, CirclePointIndex, M31, Refusal};
 use std::iter::FusedIterator;
 use taripomune_sys::{tari_coset_iterator_reply, tari_coset_reply, tari_coset_step_reply};
 
-/// 2^`log_size` points of the circle: the index and the point of the first one, and of the step between them. A point
-/// needn't be that of its index; each function uses the field that stwo's function of this name uses.
+/// 2^`log_size` points of the circle: the index and the point of the first one, and of the step between them. Each
+/// point is that of its index.
 ///
 /// ```
 /// use taripomune::{Coset, Refusal};
@@ -46,9 +46,9 @@ impl Answer for Coset {
 }
 
 impl Coset {
-    /// The coset of these fields, which needn't agree with one another.
+    /// The coset of these fields, of which each point is that of its index. The log size needn't belong to the step.
     ///
-    /// Refuses a log size above 31 with 6.
+    /// Refuses a log size above 31 with 6, and a point that isn't its index's with 14.
     pub fn from_fields(
         initial_index: CirclePointIndex,
         initial: CirclePoint<M31>,

@@ -30,6 +30,8 @@ pub enum Refusal {
     Chunk,
     /// A word that isn't below P; where it is in its slice.
     Word(u64),
+    /// A coset whose initial or step point isn't its index's point.
+    Contradiction,
     /// A number too large to reduce.
     Reduction,
     /// The inverse of zero, or a division by it; which element of its batch.
@@ -54,6 +56,7 @@ impl Refusal {
             Refusal::Length => 8,
             Refusal::Chunk => 9,
             Refusal::Word(_) => 1,
+            Refusal::Contradiction => 14,
             Refusal::Reduction => 2,
             Refusal::Inverse(_) => 3,
             Refusal::Halving => 5,
@@ -80,6 +83,7 @@ impl Refusal {
             Refusal::Length => "a column, its destination or scratch has a length that doesn't fit",
             Refusal::Chunk => "a chunk has no elements",
             Refusal::Word(_) => "a word is not below 2147483647",
+            Refusal::Contradiction => "the initial or step point of a coset isn't its index's point",
             Refusal::Reduction => "a number is too large to reduce",
             Refusal::Inverse(_) => "zero has no inverse",
             Refusal::Halving => "an odd index has no half",
@@ -104,6 +108,7 @@ impl Refusal {
             10 => Refusal::Circle,
             11 => Refusal::Scalar,
             12 => Refusal::Narrowing,
+            14 => Refusal::Contradiction,
             _ => panic!("the library refused with number {number}, which this crate doesn't know"),
         }
     }

@@ -1,7 +1,7 @@
 //! `docs/CALLS.md` is what its program writes from the header, the entry points and the specs, and `docs/DIFFERENCES.md`
 //! has a row for every refusal of every call.
 
-use std::collections::BTreeMap;
+use std::collections::{BTreeMap, BTreeSet};
 use std::fs;
 use std::path::Path;
 use taripomune_header::Header;
@@ -29,12 +29,19 @@ fn refusals_with_a_row(document: &str) -> BTreeMap<String, Vec<u32>> {
     found
 }
 
+/// Each number where it first stands: a call may check for it in two places, and has one smallest input of it.
+fn once(mut numbers: Vec<u32>) -> Vec<u32> {
+    let mut seen = BTreeSet::new();
+    numbers.retain(|number| seen.insert(*number));
+    numbers
+}
+
 #[test]
 fn every_refusal_of_every_call_has_a_row_of_differences() {
     let root = Path::new(env!("CARGO_MANIFEST_DIR")).join("..");
     let header = Header::read(&fs::read_to_string(root.join("include/taripomune.h")).unwrap());
-    let refusals = |call: &taripomune_header::Prototype| (call.name.clone(), call.refusals().unwrap());
-    let declared: BTreeMap<String, Vec<u32>> = header.prototypes.iter().map(refusals).collect();
+    let declared: BTreeMap<String, Vec<u32>> =
+        header.prototypes.iter().map(|call| (call.name.clone(), once(call.refusals().unwrap()))).collect();
     let rows = refusals_with_a_row(&fs::read_to_string(root.join("docs/DIFFERENCES.md")).unwrap());
     let unknown: Vec<&String> = rows.keys().filter(|name| !declared.contains_key(*name)).collect();
     assert_eq!(unknown, Vec::<&String>::new(), "these have rows and aren't in the header");

@@ -43,6 +43,7 @@ fn the_names_of_numbers_are_the_crates() {
         ("LENGTH", Refusal::Length),
         ("CHUNK", Refusal::Chunk),
         ("WORD", Refusal::Word(0)),
+        ("CONTRADICTION", Refusal::Contradiction),
         ("REDUCTION", Refusal::Reduction),
         ("INVERSE", Refusal::Inverse(0)),
         ("HALVING", Refusal::Halving),
@@ -65,7 +66,7 @@ fn the_version_is_the_librarys() {
 
 /// The version, and a sum over the declarations that it goes with. Where the declarations change, raise `TARI_VERSION`
 /// and `crates/taripomune/specs/Version.antt`, and write both numbers here.
-const DECLARED: (u32, u64) = (2, 1_508_292_969_844_288_565);
+const DECLARED: (u32, u64) = (3, 14_338_927_691_576_920_468);
 
 #[test]
 fn other_declarations_have_another_version() {

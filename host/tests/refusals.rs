@@ -64,6 +64,8 @@ fn refused_calls() -> Vec<(u32, u64, Refusal)> {
         (11, 0, offset_bit_reversed_circle_domain_index(0, 0, 1, (1 << 31) + 1).unwrap_err()),
         (12, 0, M31::try_from(CM31::from_m31(one, one)).unwrap_err()),
         (12, 0, M31::try_from(QM31::from_m31(one, M31::zero(), M31::zero(), one)).unwrap_err()),
+        (14, 0, Coset::from_fields(index(0), off_circle(), index(0), CirclePoint::zero(), 0).unwrap_err()),
+        (14, 0, Coset::from_fields(index(0), CirclePoint::zero(), index(0), off_circle(), 31).unwrap_err()),
     ]
 }
 
@@ -74,7 +76,7 @@ fn each_number_of_the_table_is_reached() {
         assert_eq!((refusal.number(), refusal.position()), (*number, *position), "{refusal}");
         assert_eq!(refusal.to_string(), format!("number {number}, position {position}: {}", refusal.sentence()));
     }
-    for number in 1..=12 {
+    for number in (1..=12).chain([14]) {
         assert!(calls.iter().any(|call| call.0 == number), "no call is refused with {number}");
     }
 }
@@ -94,6 +96,31 @@ fn what_is_just_inside_is_accepted() {
     assert!(CirclePoint::get_point(SECURE_FIELD_CIRCLE_ORDER - 1).is_ok());
     assert!(offset_bit_reversed_circle_domain_index(0, 0, 1, 1 << 31).is_ok());
     assert_eq!(batch_inverse::<M31>(&[]), Ok(vec![]));
+}
+
+#[test]
+fn a_coset_has_the_points_of_its_indices() {
+    let of = |first: usize, initial: CirclePoint<M31>, step_size: usize, step: CirclePoint<M31>, log_size| {
+        Coset::from_fields(index(first), initial, index(step_size), step, log_size)
+    };
+    for (first, step_size) in [(0, 0), (1, 1 << 28), (1 << 30, 5), (1 << 29, 3 << 29), ((1 << 31) - 1, (1 << 31) - 2)] {
+        let [initial, step] = [first, step_size].map(|k| index(k).to_point());
+        let other = |p: CirclePoint<M31>| [p + M31_CIRCLE_GEN, p.antipode(), CirclePoint { y: p.y + M31::one(), ..p }];
+        // A log size that is foreign to the step is accepted.
+        for log_size in [0, 4, 31] {
+            assert!(of(first, initial, step_size, step, log_size).is_ok());
+            for point in other(initial) {
+                assert_eq!(of(first, point, step_size, step, log_size), Err(Refusal::Contradiction));
+            }
+            for point in other(step) {
+                assert_eq!(of(first, initial, step_size, point, log_size), Err(Refusal::Contradiction));
+            }
+        }
+        let exchanged = of(first, step, step_size, initial, 4);
+        assert_eq!(exchanged.is_ok(), first == step_size);
+    }
+    // Not every canonic coset is odds of its log size.
+    assert!(CanonicCoset::from_coset(Coset::subgroup(3).unwrap()).is_ok());
 }
 
 #[test]

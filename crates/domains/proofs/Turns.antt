@@ -3,19 +3,22 @@ use mathlib.Core.Path.{_≡_, _∙_, ap}
 use mathlib.Core.Bool.{Bool}
 use mathlib.Core.List.{_++_}
 use Rattle.fields.specs.Check.{need, outcome}
-use Rattle.fields.specs.CheckLaws.{inTurn, in-turn}
+use Rattle.fields.specs.CheckLaws.{inTurn, in-turn, at-first, past-first, passed-hold, hold-split}
 use Rattle.fields.specs.LogSize.{isLogSize}
 use Rattle.fields.specs.declared.check.Check.{Check}
+use Rattle.fields.specs.declared.check.Check.the-variants.{Passed, Refused}
 use Rattle.fields.specs.declared.refusal.Refusal.{Refusal}
 use Rattle.fields.specs.declared.refusal.Refusal.the-variants.{LogSize}
 use Rattle.circle.specs.Point as P
-use Rattle.circle.specs.Index.{inRange}
+use Rattle.circle.specs.Index.{IsIndex, inRange}
 use Rattle.circle.specs.declared.index.CirclePointIndex.{CirclePointIndex}
 use Rattle.domains.specs.declared.coset.Coset.{Coset}
 use Rattle.domains.specs.declared.canonic.CanonicCoset.{CanonicCoset}
 use Rattle.domains.specs.declared.iterator.CosetIterator.{CosetIterator}
 use Rattle.domains.specs.declared.iterator.CircleDomainIndexIterator.{CircleDomainIndexIterator}
-use Rattle.domains.specs.Record.{logSize, indices, words, check, checkCanonic, checkTwo, checkWithIndex}
+use Rattle.domains.specs.Record.{logSize, indices, words, pointOfIndex, points, indicesAndPoints}
+use Rattle.domains.specs.Record.{check, checkCanonic, checkTwo, checkWithIndex}
+use Rattle.domains.specs.RecordLaws.{indices-fit}
 use Rattle.domains.specs.Iterator as T
 
 -- one test, answered by t
@@ -31,38 +34,48 @@ pub words-said : (c : Coset) (a b r : Check) → a ≡ outcome (P.words (c .init
     → r ≡ outcome (words c)
 words-said c = in-turn (P.words (c .initial)) (P.words (c .step))
 
-pub check-said : (c : Coset) (size index first word r : Check) → size ≡ outcome (logSize c) → index ≡ outcome (indices c)
-    → first ≡ inTurn size index
-    → word ≡ outcome (words c) → r ≡ inTurn first word → r ≡ outcome (check c)
+pub points-said : (c : Coset) (a b r : Check) → a ≡ outcome (pointOfIndex (c .initial) (c .«initial_index»))
+    → b ≡ outcome (pointOfIndex (c .step) (c .«step_size»))
+    → r ≡ inTurn a b → r ≡ outcome (points c)
+points-said c = in-turn (pointOfIndex (c .initial) (c .«initial_index»)) (pointOfIndex (c .step) (c .«step_size»))
+
+-- the indices and the words, and where they pass the points
+module _ (c : Coset) (index word each : Check) (e : index ≡ outcome (indices c)) (f : word ≡ outcome (words c))
+    (g : each ≡ inTurn index word)
+  where
+    each-said : each ≡ outcome (indices c ++ words c)
+    each-said = in-turn (indices c) (words c) index word each e f g
+
+    pub each-refused : (why : Refusal) → each ≡ Refused why → Refused why ≡ outcome (indicesAndPoints c)
+    each-refused why h = at-first (indices c ++ words c) (points c) each why Refused Passed each-said h
+
+    pub each-passed : (r : Check) → each ≡ Passed → r ≡ outcome (points c) → r ≡ outcome (indicesAndPoints c)
+    each-passed r h i = past-first (indices c ++ words c) (points c) each Refused r Passed each-said h i
+
+    pub each-fits : each ≡ Passed → (IsIndex (c .«initial_index»)) × (IsIndex (c .«step_size»))
+    each-fits h = indices-fit c (hold-split (indices c) (words c) (passed-hold (indices c ++ words c) each each-said h) .0)
+
+pub check-said : (c : Coset) (size rest r : Check) → size ≡ outcome (logSize c) → rest ≡ outcome (indicesAndPoints c) → r ≡ inTurn size rest
+    → r ≡ outcome (check c)
 unfolding check
-check-said c size index first word r e f g h i =
-    in-turn (logSize c ++ indices c) (words c) first word r (in-turn (logSize c) (indices c) size index first e f g) h i
+check-said c = in-turn (logSize c) (indicesAndPoints c)
 
-pub canonic-said : (c : CanonicCoset) (size index first word r : Check) → size ≡ outcome (need (isLogSize (c .coset .«log_size»)) LogSize)
-    → index ≡ outcome (indices (c .coset)) → first ≡ inTurn size index → word ≡ outcome (words (c .coset)) → r ≡ inTurn first word
-    → r ≡ outcome (checkCanonic c)
+pub canonic-said : (c : CanonicCoset) (size rest r : Check) → size ≡ outcome (need (isLogSize (c .coset .«log_size»)) LogSize)
+    → rest ≡ outcome (indicesAndPoints (c .coset))
+    → r ≡ inTurn size rest → r ≡ outcome (checkCanonic c)
 unfolding checkCanonic
-canonic-said c size index first word r e f g h i =
-    in-turn (need (isLogSize (c .coset .«log_size»)) LogSize ++ indices (c .coset)) (words (c .coset)) first word r
-    (in-turn (need (isLogSize (c .coset .«log_size»)) LogSize) (indices (c .coset)) size index first e f g) h i
+canonic-said c = in-turn (need (isLogSize (c .coset .«log_size»)) LogSize) (indicesAndPoints (c .coset))
 
-pub with-index-said : (c : Coset) (k : CirclePointIndex) (size index first range second word r : Check) → size ≡ outcome (logSize c)
-    → index ≡ outcome (indices c) → first ≡ inTurn size index → range ≡ outcome (inRange k) → second ≡ inTurn first range
-    → word ≡ outcome (words c)
-    → r ≡ inTurn second word → r ≡ outcome (checkWithIndex c k)
+pub with-index-said : (c : Coset) (k : CirclePointIndex) (first range r : Check) → first ≡ outcome (check c) → range ≡ outcome (inRange k)
+    → r ≡ inTurn first range
+    → r ≡ outcome (checkWithIndex c k)
 unfolding checkWithIndex
-with-index-said c k size index first range second word r e f g h i j l =
-    in-turn (logSize c ++ indices c ++ inRange k) (words c) second word r
-    (in-turn (logSize c ++ indices c) (inRange k) first range second (in-turn (logSize c) (indices c) size index first e f g) h i) j l
+with-index-said c k = in-turn (check c) (inRange k)
 
--- two records: row by row
-pub two-said : (c d : Coset) (sizes both points first r : Check) → sizes ≡ outcome (logSize c ++ logSize d)
-    → both ≡ outcome (indices c ++ indices d)
-    → points ≡ outcome (words c ++ words d) → first ≡ inTurn sizes both → r ≡ inTurn first points → r ≡ outcome (checkTwo c d)
+pub two-said : (c d : Coset) (first second r : Check) → first ≡ outcome (check c) → second ≡ outcome (check d) → r ≡ inTurn first second
+    → r ≡ outcome (checkTwo c d)
 unfolding checkTwo
-two-said c d sizes both points first r e f g h i =
-    in-turn ((logSize c ++ logSize d) ++ (indices c ++ indices d)) (words c ++ words d) first points r
-    (in-turn (logSize c ++ logSize d) (indices c ++ indices d) sizes both first e f h) g i
+two-said c d = in-turn (check c) (check d)
 
 pub iterator-said : (it : CosetIterator) (a b r : Check) → a ≡ outcome (inRange (it .cur)) → b ≡ outcome (inRange (it .step))
     → r ≡ inTurn a b

@@ -1,4 +1,5 @@
--- What a call answers with, the calls accept: every index is below 2^31, and every record passes the checks of a record.
+-- What a call answers with, the calls accept: every index is below 2^31, and every coset, canonic coset and domain passes the checks of
+-- its record, the last of which is that each point is that of its index.
 use Prim.Native.Nat.{ℕ, _+_, _-_, _*_, _/_, _%_, _^_, _<_}
 use mathlib.Core.Bool.{Bool, true, false, cond}
 use mathlib.Core.List.{_++_}
@@ -35,7 +36,7 @@ use Rattle.domains.specs.declared.iterator.CircleDomainIndexIteratorAnsw
 use Rattle.domains.specs.declared.iterator.CircleDomainIndexIteratorAnswer.the-variants as DT
 use Rattle.domains.specs.declared.iterator.CircleDomainStep.{CircleDomainStep}
 use Rattle.domains.specs.declared.iterator.CircleDomainStep.the-variants as DS
-use Rattle.domains.specs.Record.{check, checkCanonic, checkWithIndex, Fits, FitsCanonic}
+use Rattle.domains.specs.Record.{check, checkCanonic, checkWithIndex, Fits}
 use Rattle.domains.specs.Coset.{cosetOf, indexAt, doubled, shifted, conjugated, iteratorOf}
 use Rattle.domains.specs.Coset as Coset
 use Rattle.domains.specs.Iterator as Iterator
@@ -43,27 +44,33 @@ use Rattle.domains.specs.Canonic.{canonicOf, halfOf}
 use Rattle.domains.specs.Canonic as Canonic
 use Rattle.domains.specs.Domain.{ofHalf, domainIndexAt, domainIteratorOf}
 use Rattle.domains.specs.Domain as Domain
+use Rattle.domains.specs.RecordLaws.{fits-hold, canonic-hold, with-index-hold}
 use Rattle.domains.specs.RecordLaws.{hold-index, hold-fits, hold-with-index, hold-canonic, hold-iterator}
 use Rattle.domains.specs.CosetLaws.{subgroup-gen-index, made-fits, canonic-of-fits, half-of-fits, doublings-fit, shifted-fits}
 use Rattle.domains.specs.CosetLaws.{conjugate-fits, index-at-index, neg-index}
 
--- the value of an answer, where it has one, passes the checks of the calls that take it (for `Fits` see RecordLaws)
+-- the value of an answer, where it has one, passes the checks of the calls that take it
 
 unfoldable pub IndexFits : CirclePointIndexAnswer → Type 0
 IndexFits (I.Value k) = IsIndex k
 IndexFits (I.Refused why) = Unit
 
 unfoldable pub CosetFits : CosetAnswer → Type 0
-CosetFits (C.Value c) = Fits c
+CosetFits (C.Value c) = Hold (check c)
 CosetFits (C.Refused why) = Unit
 
 unfoldable pub CanonicFits : CanonicCosetAnswer → Type 0
-CanonicFits (K.Value c) = FitsCanonic c
+CanonicFits (K.Value c) = Hold (checkCanonic c)
 CanonicFits (K.Refused why) = Unit
 
 unfoldable pub DomainFits : CircleDomainAnswer → Type 0
-DomainFits (D.Value d) = Fits (d .«half_coset»)
+DomainFits (D.Value d) = Hold (check (d .«half_coset»))
 DomainFits (D.Refused why) = Unit
+
+-- also shifted by k: the shift is accepted, and the domain that it gives
+unfoldable pub PartFits : CircleDomainAnswer → ℕ → Type 0
+PartFits (D.Value d) k = Hold (checkWithIndex (d .«half_coset») (ofIndex k)) × Hold (check (shifted (d .«half_coset») k))
+PartFits (D.Refused why) k = Unit
 
 -- both indices of an iterator
 abbrev pub BothFit : CosetIterator → Type 0
@@ -123,11 +130,13 @@ pub record CanonicAnswers : Type 0 where
   pub stepSize : (c : CanonicCoset) → IndexFits (Canonic.stepSizeAnswer c)
   pub indexAt : (c : CanonicCoset) (i : ℕ) → IndexFits (Canonic.indexAtAnswer c i)
 
--- the shifts that `split` writes are below 2^31 by `splitExit`
 pub record DomainAnswers : Type 0 where
   pub new : (c : Coset) → DomainFits (Domain.newAnswer c)
   pub shift : (d : CircleDomain) (k : CirclePointIndex) → DomainFits (Domain.shiftAnswer d k)
   pub split : (d : CircleDomain) (n words : ℕ) → DomainFits (Domain.splitAnswer d n words)
+  -- part i is what `split` answers with, shifted by word i of the shifts that it writes (`splitExit`)
+  pub part : (d : CircleDomain) (n words i : ℕ)
+      → PartFits (Domain.splitAnswer d n words) ((d .«half_coset» .«step_size» .0 * i) % 2 ^ 31)
   pub indexAt : (d : CircleDomain) (i : ℕ) → IndexFits (Domain.indexAtAnswer d i)
   pub iterIndices : (d : CircleDomain) → DomainIteratorFits (Domain.iterIndicesAnswer d)
   pub next : (it : CircleDomainIndexIterator) → DomainStepFits (Iterator.domainNextAnswer it)
@@ -140,11 +149,11 @@ index-answer checks k = checked-has IndexFits checks I.Refused (I.Value k) (λ w
 
 coset-answer : (checks : Checks) (c : Coset) → (Hold checks → Fits c) → CosetFits (checked checks C.Refused (C.Value c))
 unfolding CosetFits
-coset-answer checks c = checked-has CosetFits checks C.Refused (C.Value c) (λ why. tt)
+coset-answer checks c h = checked-has CosetFits checks C.Refused (C.Value c) (λ why. tt) (λ t. fits-hold c (h t))
 
 domain-answer : (checks : Checks) (c : Coset) → (Hold checks → Fits c) → DomainFits (checked checks D.Refused (D.Value (ofHalf c)))
 unfolding DomainFits
-domain-answer checks c = checked-has DomainFits checks D.Refused (D.Value (ofHalf c)) (λ why. tt)
+domain-answer checks c h = checked-has DomainFits checks D.Refused (D.Value (ofHalf c)) (λ why. tt) (λ t. fits-hold c (h t))
 
 cond-has : {A : Type 0} (Has : A → Type 0) (t : Bool) (x y : A) → Has x → Has y → Has (cond t x y)
 cond-has Has true x y h k = h
@@ -209,7 +218,7 @@ unfolding Canonic.tryNewAnswer Canonic.cosetAnswer Canonic.halfCosetAnswer Canon
     Canonic.stepSizeAnswer Canonic.indexAtAnswer CanonicFits
 canonic-answers = record {
   tryNew = λ n. checked-has CanonicFits (need (isLogSize n) LogSize) K.Refused (K.Value (canonicOf n)) (λ why. tt)
-      (λ h. let range = log-size-fits n (h .0) in canonic-of-fits n (range .0) (range .1));
+      (λ h. let range = log-size-fits n (h .0) in canonic-hold (canonicOf n) (canonic-of-fits n (range .0) (range .1)));
   coset = λ c. coset-answer (checkCanonic c) (c .coset) (λ h. hold-canonic c h .coset);
   halfCoset = λ c. coset-answer (checkCanonic c) (halfOf (c .coset .«log_size»))
       (λ h. half-of-fits (c .coset .«log_size») (hold-canonic c h .most));
@@ -236,16 +245,16 @@ room d n words = need (leb n (d .«half_coset» .«log_size»)) Doublings ++ nee
 
 pub domain-answers : DomainAnswers
 unfolding Domain.newAnswer Domain.shiftAnswer Domain.splitAnswer Domain.indexAtAnswer Domain.iterIndicesAnswer DomainIteratorFits
-    Iterator.domainNextAnswer Iterator.checkBoth Iterator.check DomainStepFits
+    Iterator.domainNextAnswer Iterator.checkBoth Iterator.check DomainStepFits PartFits
 domain-answers = record {
   new = λ c. domain-answer (check c) c (hold-fits c);
   shift = λ d k. domain-answer (checkWithIndex (d .«half_coset») k) (shifted (d .«half_coset») (k .0))
       (λ h. shifted-fits (d .«half_coset») (k .0) (hold-with-index (d .«half_coset») k h .0));
-  split = λ d n words. domain-answer (check (d .«half_coset») ++ room d n words)
-      (cosetOf (d .«half_coset» .«initial_index» .0) (d .«half_coset» .«log_size» - n)) (λ h.
-      let f = hold-fits (d .«half_coset») (hold-split (check (d .«half_coset»)) (room d n words) h .0) in
-      made-fits (d .«half_coset» .«initial_index» .0) (d .«half_coset» .«log_size» - n) (f .initialIndexFits)
-      (omega (arith, f .logSizeFits)));
+  split = λ d n words. domain-answer (check (d .«half_coset») ++ room d n words) (smaller d n) (smaller-fits d n words);
+  part = λ d n words i. checked-has (λ r. PartFits r (at d i)) (check (d .«half_coset») ++ room d n words) D.Refused
+      (D.Value (ofHalf (smaller d n))) (λ why. tt)
+      (λ h. let f = smaller-fits d n words h in
+      (with-index-hold (smaller d n) (ofIndex (at d i)) f (omega arith), fits-hold _ (shifted-fits (smaller d n) (at d i) f)));
   indexAt = λ d i. index-answer (check (d .«half_coset»)) (ofIndex (domainIndexAt (d .«half_coset») i))
       (λ h. domain-index-index (d .«half_coset») i);
   iterIndices = λ d. checked-has DomainIteratorFits (check (d .«half_coset»)) DT.Refused (DT.Value (domainIteratorOf (d .«half_coset»)))
@@ -253,6 +262,19 @@ domain-answers = record {
   next = domain-step;
 }
   where
+    -- the half coset of what `split` answers with, and word i of its shifts
+    smaller : CircleDomain → ℕ → Coset
+    smaller d n = cosetOf (d .«half_coset» .«initial_index» .0) (d .«half_coset» .«log_size» - n)
+
+    at : CircleDomain → ℕ → ℕ
+    at d i = (d .«half_coset» .«step_size» .0 * i) % 2 ^ 31
+
+    smaller-fits : (d : CircleDomain) (n words : ℕ) → Hold (check (d .«half_coset») ++ room d n words) → Fits (smaller d n)
+    smaller-fits d n words h =
+        let f = hold-fits (d .«half_coset») (hold-split (check (d .«half_coset»)) (room d n words) h .0) in
+        made-fits (d .«half_coset» .«initial_index» .0) (d .«half_coset» .«log_size» - n) (f .initialIndexFits)
+        (omega (arith, f .logSizeFits))
+
     domain-step : (it : CircleDomainIndexIterator) → DomainStepFits (Iterator.domainNextAnswer it)
     domain-step it = checked-has DomainStepFits (Iterator.checkBoth it) DS.Refused _ (λ why. tt) (λ h.
         let both = hold-split (Iterator.check (it .first)) (Iterator.check (it .second)) h in

@@ -1,4 +1,4 @@
--- What each call of cosets answers: the refusals of the table in docs/CALLS.md in its order, then its formulas.
+-- What each call of cosets answers: the refusals of its records, then the others of the table in docs/CALLS.md, then its formulas.
 use Prim.Native.Nat.{ℕ, _+_, _-_, _*_, _%_, _^_}
 use mathlib.Core.Bool.{Bool, _&&_}
 use mathlib.Core.List.{_++_}
@@ -15,7 +15,6 @@ use Rattle.fields.specs.declared.answer.BoolAnswer.{BoolAnswer}
 use Rattle.fields.specs.declared.answer.BoolAnswer.the-variants as B
 use Rattle.circle.specs.Point.{ofPoint, pointOf}
 use Rattle.circle.specs.Index.{ofIndex, inRange, indexPoint, subgroupGen, negIndex}
-use Rattle.circle.specs.declared.point.CirclePoint.{CirclePoint}
 use Rattle.circle.specs.declared.point.CirclePointAnswer.{CirclePointAnswer}
 use Rattle.circle.specs.declared.point.CirclePointAnswer.the-variants as P
 use Rattle.circle.specs.declared.index.CirclePointIndex.{CirclePointIndex}
@@ -27,7 +26,7 @@ use Rattle.domains.specs.declared.coset.CosetAnswer.the-variants.{Value,
 use Rattle.domains.specs.declared.iterator.CosetIterator.{CosetIterator}
 use Rattle.domains.specs.declared.iterator.CosetIteratorAnswer.{CosetIteratorAnswer}
 use Rattle.domains.specs.declared.iterator.CosetIteratorAnswer.the-variants as T
-use Rattle.domains.specs.Record.{check, checkTwo, checkWithIndex}
+use Rattle.domains.specs.Record.{samePoint, check, checkTwo, checkWithIndex}
 
 -- 2^n points from index k on
 unfoldable pub cosetOf : ℕ → ℕ → Coset
@@ -87,10 +86,6 @@ repeatedDoubleAnswer c n = checked (check c ++ need (leb n (c .«log_size»)) Do
 unfoldable pub doubleAnswer : Coset → CosetAnswer
 unfolding repeatedDoubleAnswer
 doubleAnswer c = repeatedDoubleAnswer c 1
-
--- whether both words are equal
-abbrev pub samePoint : CirclePoint → CirclePoint → Bool
-samePoint p q = eqb (p .x .0) (q .x .0) && eqb (p .y .0) (q .y .0)
 
 -- field by field
 unfoldable pub sameCoset : Coset → Coset → Bool

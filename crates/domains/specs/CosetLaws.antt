@@ -8,14 +8,14 @@ use lib.Dec.{lit<}
 use borrow.Author.Tests.{le-leb, eq-eqb}
 use Rattle.algebra.specs.M31.{m31}
 use Rattle.algebra.specs.ZMod.{mod-mul-mod}
-use Rattle.algebra.specs.Doubling.{iterate}
+use Rattle.algebra.specs.Doubling.{iterate, double}
 use Rattle.fields.specs.AnswerLaws.{first-holds}
 use Rattle.fields.specs.Words.{words31}
 use Rattle.fields.specs.Inverse.{m31-representation}
 use Rattle.circle.specs.Point.{ofPoint, pointOf}
 use Rattle.circle.specs.Points.{plus-reduced}
 use Rattle.circle.specs.IndexPoints.{index-below, index-double}
-use Rattle.circle.specs.Index.{ofIndex, IsIndex, negIndex, subgroupGen}
+use Rattle.circle.specs.Index.{ofIndex, IsIndex, indexPoint, negIndex, subgroupGen}
 use Rattle.domains.specs.declared.coset.Coset.{Coset}
 use Rattle.domains.specs.Record.{Fits, FitsCanonic}
 use Rattle.domains.specs.Coset.{cosetOf, indexAt, doubled, sameCoset, isDoublingOf, shifted, conjugated}
@@ -38,6 +38,8 @@ made-fits k n h l = record {
   stepSizeFits = subgroup-gen-index n;
   initialReduced = index-below k;
   stepReduced = index-below (subgroupGen n);
+  initialAgrees = refl;
+  stepAgrees = refl;
 }
 
 pub canonic-of-fits : (n : ℕ) → 1 ≤ n → n ≤ 30 → FitsCanonic (canonicOf n)
@@ -56,14 +58,18 @@ made-index k n i =
     sym (N.add-mod-mod k (subgroupGen n * i) (2 ^ 31)) ∙ ap (λ (t : ℕ). (k + t) % 2 ^ 31) (mod-mul-mod (2 ^ (31 - n)) i (2 ^ 31))
     ∙ N.add-mod-mod k (2 ^ (31 - n) * i) (2 ^ 31)
 
+-- the point of an index, doubled, is that of the index, doubled
+double-agrees : (p : ℕ × ℕ) (k : ℕ) → p ≡ indexPoint k → double words31 p ≡ indexPoint ((k * 2) % 2 ^ 31)
+double-agrees p k e = ap (double words31) e ∙ index-double k ((k * 2) % 2 ^ 31) (k * 2 / 2 ^ 31) (omega arith)
+
 -- doubling gives the coset from twice the first index on, of half as many points
 pub made-doubled : (k n : ℕ) → n ≤ 30 → doubled (cosetOf k (suc n)) ≡ cosetOf ((k * 2) % 2 ^ 31) n
 unfolding doubled cosetOf
 made-doubled k n h = λ i. record {
   «initial_index» = ofIndex ((k * 2) % 2 ^ 31);
-  initial = ofPoint (index-double k ((k * 2) % 2 ^ 31) (k * 2 / 2 ^ 31) (omega arith) i);
+  initial = ofPoint (double-agrees (indexPoint k) k refl i);
   «step_size» = ofIndex (twice-step i);
-  step = ofPoint (index-double (subgroupGen (suc n)) (subgroupGen n) (subgroupGen (suc n) * 2 / 2 ^ 31) (omega (arith, twice-step)) i);
+  step = ofPoint ((double-agrees (indexPoint (subgroupGen (suc n))) (subgroupGen (suc n)) refl ∙ ap indexPoint twice-step) i);
   «log_size» = one-less i;
 }
   where
@@ -108,6 +114,8 @@ doubled-fits c f = record {
   stepSizeFits = omega arith;
   initialReduced = plus-reduced words31 m31 m31-representation (pointOf (c .initial)) (pointOf (c .initial));
   stepReduced = plus-reduced words31 m31 m31-representation (pointOf (c .step)) (pointOf (c .step));
+  initialAgrees = double-agrees (pointOf (c .initial)) (c .«initial_index» .0) (f .initialAgrees);
+  stepAgrees = double-agrees (pointOf (c .step)) (c .«step_size» .0) (f .stepAgrees);
 }
 
 pub doublings-fit : (n : ℕ) (c : Coset) → Fits c → Fits (iterate n doubled c)
@@ -123,6 +131,8 @@ shifted-fits c k f = record {
   stepSizeFits = f .stepSizeFits;
   initialReduced = index-below ((c .«initial_index» .0 + k) % 2 ^ 31);
   stepReduced = f .stepReduced;
+  initialAgrees = refl;
+  stepAgrees = f .stepAgrees;
 }
 
 -- ---- the indices of a coset
@@ -155,6 +165,8 @@ conjugate-fits c h = record {
   stepSizeFits = neg-index (c .«step_size» .0);
   initialReduced = index-below (negIndex (c .«initial_index» .0));
   stepReduced = index-below (negIndex (c .«step_size» .0));
+  initialAgrees = refl;
+  stepAgrees = refl;
 }
 
 pub conjugate-index : (c : Coset) (i : ℕ) → Fits c → indexAt (conjugated c) i ≡ negIndex (indexAt c i)

@@ -1,4 +1,4 @@
--- What each call of circle domains answers: the refusals of the table in docs/CALLS.md in its order, then its formulas.
+-- What each call of circle domains answers: the refusals of its record, then the others of the table in docs/CALLS.md, then its formulas.
 use Prim.Native.Nat.{ℕ, _+_, _-_, _*_, _%_, _^_, _≤_, _<_}
 use mathlib.Core.Path.{_≡_}
 use mathlib.Core.Bool.{Bool, true, cond, _||_}

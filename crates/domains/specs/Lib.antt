@@ -12,5 +12,6 @@ pub mod IteratorLaws
 pub mod PointSet
 pub mod CanonicDomain
 pub mod AnswersFit
+pub mod Agreement
 pub mod BitReversed
 pub mod Doubled

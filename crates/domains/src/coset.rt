@@ -1,5 +1,4 @@
-// Cosets initial + <step> (stwo's Coset). A record whose points disagree with its indices is accepted: each answer uses
-// the field that the Rust uses.
+// Cosets initial + <step> (stwo's Coset). A record whose points aren't those of its indices is refused by every call that takes one.
 ghost use mathlib.Core.Path.{_≡_};
 ghost use Rattle.domains.specs.Coset.{newAnswer, subgroupAnswer, oddsAnswer, halfOddsAnswer, sizeAnswer, logSizeAnswer};
 ghost use Rattle.domains.specs.Coset.{iterIndicesAnswer, doubleAnswer, repeatedDoubleAnswer, isDoublingOfAnswer};

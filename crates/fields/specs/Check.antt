@@ -1,5 +1,5 @@
--- What a call checks before it does anything: tests in the order of the table in docs/CALLS.md, each with the refusal that is made
--- where it is the first to fail. First these and then those is `++`.
+-- What a call checks before it does anything: tests in the order that docs/CALLS.md tells, each with the refusal that is made where
+-- it is the first to fail. First these and then those is `++`.
 use mathlib.Core.Bool.{Bool, cond}
 use mathlib.Core.List.{List, [], _∷_}
 use Rattle.fields.specs.declared.refusal.Refusal.{Refusal}

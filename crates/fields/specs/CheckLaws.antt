@@ -61,6 +61,13 @@ checked-has Has [] f a r v = v tt
 checked-has Has ((true, why) ∷ rest) f a r v = checked-has Has rest f a r (λ h. v (refl, h))
 checked-has Has ((false, why) ∷ rest) f a r v = r why
 
+-- values that are equal where every test holds make one answer
+pub checked-equal : {A : Type 0} (checks : Checks) (f : Refusal → A) (a b : A) → (Hold checks → a ≡ b)
+    → checked checks f a ≡ checked checks f b
+checked-equal [] f a b e = e tt
+checked-equal ((true, why) ∷ rest) f a b e = checked-equal rest f a b (λ h. e (refl, h))
+checked-equal ((false, why) ∷ rest) f a b e = refl
+
 -- r is what the checks said
 pub passed-hold : (checks : Checks) (r : Check) → r ≡ outcome checks → r ≡ Passed → Hold checks
 passed-hold checks r e h = hold checks (sym e ∙ h)

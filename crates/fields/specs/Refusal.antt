@@ -1,8 +1,8 @@
 -- The number of each refusal, and its position.
 use Prim.Native.Nat.{ℕ}
 use Rattle.fields.specs.declared.refusal.Refusal.{Refusal}
-use Rattle.fields.specs.declared.refusal.Refusal.the-variants.{LogSize, Index, Scalar, Length, Chunk, Word, Reduction}
-use Rattle.fields.specs.declared.refusal.Refusal.the-variants.{Inverse, Halving, Doublings, Circle, Narrowing}
+use Rattle.fields.specs.declared.refusal.Refusal.the-variants.{LogSize, Index, Scalar, Length, Chunk, Word, Contradiction}
+use Rattle.fields.specs.declared.refusal.Refusal.the-variants.{Reduction, Inverse, Halving, Doublings, Circle, Narrowing}
 
 -- a refusal's number; the cases stand in the order of checking
 abbrev pub numberOf : Refusal → ℕ
@@ -12,6 +12,7 @@ numberOf Scalar = 11
 numberOf Length = 8
 numberOf Chunk = 9
 numberOf (Word at) = 1
+numberOf Contradiction = 14
 numberOf Reduction = 2
 numberOf (Inverse at) = 3
 numberOf Halving = 5
@@ -27,6 +28,7 @@ positionOf Scalar = 0
 positionOf Length = 0
 positionOf Chunk = 0
 positionOf (Word at) = at
+positionOf Contradiction = 0
 positionOf Reduction = 0
 positionOf (Inverse at) = at
 positionOf Halving = 0

@@ -15,6 +15,8 @@ pub enum Refusal {
     Chunk,
     // an element word at or above P; where it is in its slice
     Word(u64),
+    // a coset record whose initial or step point isn't its index's point
+    Contradiction,
     // a number too large to reduce
     Reduction,
     // the inverse of zero, or a division by it; which element of its batch
@@ -40,6 +42,7 @@ impl Refusal {
             Refusal::Length => 8,
             Refusal::Chunk => 9,
             Refusal::Word(_) => 1,
+            Refusal::Contradiction => 14,
             Refusal::Reduction => 2,
             Refusal::Inverse(_) => 3,
             Refusal::Halving => 5,
@@ -59,6 +62,7 @@ impl Refusal {
             Refusal::Length => 0,
             Refusal::Chunk => 0,
             Refusal::Word(at) => at,
+            Refusal::Contradiction => 0,
             Refusal::Reduction => 0,
             Refusal::Inverse(at) => at,
             Refusal::Halving => 0,

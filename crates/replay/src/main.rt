@@ -130,6 +130,7 @@ fn main() {
     replay(Form::Words, b"coset.txt");
     replay(Form::Words, b"canonic_coset.txt");
     replay(Form::Words, b"circle_domain.txt");
+    replay(Form::Words, b"contradicting_records.txt");
     replay(Form::Words, b"transform.txt");
     replay(Form::Rule, b"long_columns.txt");
     replay(Form::Words, b"damaged.txt");

@@ -56,7 +56,7 @@ impl Args<'_> {
         CirclePointIndex(self.take())
     }
 
-    /// A record of seven numbers, which needn't agree with one another.
+    /// A record of seven numbers.
     pub fn coset(&mut self) -> Coset {
         Coset {
             initial_index: self.index(),

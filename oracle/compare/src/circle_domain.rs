@@ -1,8 +1,7 @@
 //! Circle domains and the iterator over their indices: `domain.rs`.
 
-use crate::circle_kinds::INDEX;
 use crate::coset::{iterator, record, step};
-use crate::coset_kinds::{COSET, COSET_AND_POSITION, COSET_ASKED, ITERATOR, SPLIT};
+use crate::coset_kinds::{COSET, COSET_AND_POSITION, COSET_AND_SHIFT, COSET_ASKED, ITERATOR, SPLIT};
 use crate::entry::{coordinates, entry, number, Entry};
 use common::args::Args;
 use stwo::core::poly::circle::CircleDomain;
@@ -21,7 +20,7 @@ pub const ENTRIES: &[Entry] = &[
     entry("circle_domain_is_canonic", &[COSET_ASKED], |a| vec![domain(a).is_canonic().into()])
         .with_instead(is_canonic_with_step_0),
     entry("circle_domain_split", &[SPLIT], split),
-    entry("circle_domain_shift", &[COSET, INDEX], |a| record(&domain(a).shift(a.index()).half_coset)),
+    entry("circle_domain_shift", &[COSET_AND_SHIFT], |a| record(&domain(a).shift(a.index()).half_coset)),
     entry("circle_domain_index_iterator_next", &[ITERATOR, ITERATOR], |a| {
         let (mut first, mut second) = (a.coset_iterator(), a.coset_iterator());
         let index = first.next().or_else(|| second.next());

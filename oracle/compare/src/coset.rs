@@ -2,8 +2,8 @@
 
 use crate::circle_kinds::INDEX;
 use crate::coset_kinds::{
-    COSET, COSET_AND_COUNT, COSET_AND_POSITION, COSET_DOUBLED, DOUBLING_AND_COSET, HALF_ODDS_LOG_SIZE, ITERATOR,
-    ODDS_LOG_SIZE, RECORD_LOG_SIZE,
+    COSET, COSET_AND_COUNT, COSET_AND_POSITION, COSET_AND_SHIFT, COSET_DOUBLED, DOUBLING_AND_COSET, HALF_ODDS_LOG_SIZE,
+    ITERATOR, ODDS_LOG_SIZE, RECORD_LOG_SIZE,
 };
 use crate::entry::{coordinates, entry, number, Entry};
 use crate::kinds::ORDER;
@@ -26,7 +26,7 @@ pub const ENTRIES: &[Entry] = &[
     entry("coset_initial", &[COSET], |a| coordinates(a.coset().initial())),
     entry("coset_index_at", &[COSET_AND_POSITION], |a| number(a.coset().index_at(a.take()))),
     entry("coset_at", &[COSET_AND_POSITION], |a| coordinates(a.coset().at(a.take()))),
-    entry("coset_shift", &[COSET, INDEX], |a| record(&a.coset().shift(a.index()))),
+    entry("coset_shift", &[COSET_AND_SHIFT], |a| record(&a.coset().shift(a.index()))),
     entry("coset_conjugate", &[COSET], |a| record(&a.coset().conjugate())),
     entry("coset_iterator_next", &[ITERATOR], |a| {
         let mut it = a.coset_iterator();

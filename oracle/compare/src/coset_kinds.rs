@@ -1,12 +1,13 @@
 //! Kinds of argument that cosets, canonic cosets and circle domains take: records, alone and with what they are taken
 //! together with, log sizes and iterators.
 
+use crate::circle_kinds::INDEX;
 use crate::columns::dst_len;
 use crate::coset_records::{
-    altered, damage, draw_good, draw_number, draw_record, made, numbers, with_step_0, INDICES, LARGEST_U32,
-    LARGEST_U64, LOG_SIZE, RECORD, RECORDS, WORDS,
+    altered, contradicts, damage, draw_good, draw_number, draw_record, made, numbers, with_points, with_step_0,
+    INDICES, LARGEST_U32, LARGEST_U64, LOG_SIZE, RECORD, RECORDS, WORDS,
 };
-use crate::kinds::{each, first_refusal, refused_if, Kind, Refusal, ORDER, P};
+use crate::kinds::{each, refused_if, Kind, Refusal, ORDER, P};
 use common::args::Args;
 use common::random::Random;
 use std::ops::RangeInclusive;
@@ -32,6 +33,7 @@ fn refused_record(numbers: &[i128], log_sizes: RangeInclusive<i128>) -> Option<R
     refused_if(!log_sizes.contains(&numbers[LOG_SIZE]), 6)
         .or(refused_if(large(&INDICES, ORDER), 4))
         .or(refused_if(large(&WORDS, P), 1))
+        .or_else(|| refused_if(contradicts(numbers), 14))
 }
 
 /// A coset, also the half coset of a circle domain.
@@ -98,11 +100,18 @@ fn each_with_three<const N: usize>(numbers: fn(i128) -> [i128; N]) -> Vec<Vec<i1
     RECORDS.iter().enumerate().flat_map(with_three).collect()
 }
 
-/// A coset and another, of which it may be the doubling.
+/// A coset, or a domain as its half coset, and the index of a shift, which is looked at after the whole record.
+pub const COSET_AND_SHIFT: Kind = Kind {
+    limits: || each_with_three(|_| [0, 1, 1 << 30, ORDER - 1, ORDER, LARGEST_U64]),
+    draw: |random| [draw_record(random), (INDEX.draw)(random)].concat(),
+    refusal: |numbers| (COSET.refusal)(numbers).or_else(|| (INDEX.refusal)(&numbers[RECORD..])),
+};
+
+/// A coset and another, of which it may be the doubling. The first is looked at wholly before the other.
 pub const DOUBLING_AND_COSET: Kind = Kind {
     limits: || [doublings(), near_doublings(), damaged_pairs()].concat(),
     draw: draw_pair,
-    refusal: |numbers| first_refusal(&[COSET, COSET], &numbers.chunks(RECORD).map(Vec::from).collect::<Vec<_>>()),
+    refusal: |numbers| (COSET.refusal)(numbers).or_else(|| (COSET.refusal)(&numbers[RECORD..])),
 };
 
 /// Cosets doubled not at all, once, as often as can be, and half as often.
@@ -115,11 +124,14 @@ fn doublings() -> Vec<Vec<i128>> {
     made().into_iter().enumerate().map(pair).collect()
 }
 
-/// Doublings with one number changed, the other order, and the smallest subgroups, of which one has the step 0.
+/// Doublings with one number changed, or an index and its point, the other order, and the smallest subgroups, of which
+/// one has the step 0.
 fn near_doublings() -> Vec<Vec<i128>> {
     let pairs = [Coset::odds(9), Coset::half_odds(2)].map(|coset| (coset.repeated_double(2), coset));
     let changed = |(doubled, coset): (Coset, Coset)| {
-        (0..RECORD).map(move |place| [one_less(numbers(&doubled), place), numbers(&coset)].concat())
+        let one = (0..RECORD).map(move |place| one_less(numbers(&doubled), place));
+        let with_point = INDICES.map(|place| with_points(one_less(numbers(&doubled), place)));
+        one.chain(with_point).map(move |record| [record, numbers(&coset)].concat())
     };
     let reversed = pairs.map(|(doubled, coset)| (coset, doubled));
     let others = [(Coset::subgroup(0), Coset::subgroup(1)), (Coset::subgroup(2), Coset::odds(2))];
@@ -134,10 +146,11 @@ fn one_less(mut numbers: Vec<i128>, place: usize) -> Vec<i128> {
     numbers
 }
 
-/// Each pair of a good record and three that are refused by log size, by index and by word.
+/// Each pair of a good record and four that are refused: by log size, by index, by word, and by a point that isn't its
+/// index's.
 fn damaged_pairs() -> Vec<Vec<i128>> {
     let coset = Coset::half_odds(3);
-    let damages: [&[(usize, i128)]; 4] = [&[], &[(LOG_SIZE, 32)], &[(3, ORDER)], &[(1, P)]];
+    let damages: [&[(usize, i128)]; 5] = [&[], &[(LOG_SIZE, 32)], &[(3, ORDER)], &[(1, P)], &[(1, 0)]];
     let records = damages.map(|damage| altered(&coset, damage));
     records.iter().flat_map(|one| records.each_ref().map(|other| [&one[..], other].concat())).collect()
 }
@@ -146,10 +159,11 @@ fn draw_pair(random: &mut Random) -> Vec<i128> {
     let record = draw_good(random);
     let count = random.below(record[LOG_SIZE] as u64 + 1) as u32;
     let mut pair = [numbers(&Args(record.iter()).coset().repeated_double(count)), record];
-    match random.below(6) {
+    match random.below(7) {
         0 => pair[0] = one_less(pair[0].clone(), random.below(RECORD as u64) as usize),
-        1 => pair.reverse(),
-        2 => pair[0] = draw_record(random),
+        1 => pair[0] = with_points(one_less(pair[0].clone(), *random.pick(&INDICES))),
+        2 => pair.reverse(),
+        3 => pair[0] = draw_record(random),
         _ => {}
     }
     if random.one_in(4) {

@@ -1,4 +1,5 @@
-//! Records of seven numbers to call with: as the Rust makes them, with numbers that disagree, and with refused ones.
+//! Records of seven numbers to call with: as the Rust makes them, with other indices and log sizes, with points that
+//! aren't their indices', and with refused numbers.
 
 use crate::coset::record;
 use crate::kinds::{ORDER, P};
@@ -53,21 +54,60 @@ pub fn altered(coset: &Coset, others: &[(usize, i128)]) -> Vec<i128> {
     numbers
 }
 
-/// Records whose numbers disagree with one another.
-fn disagreeing() -> Vec<Vec<i128>> {
-    let altered_half_odds = |others: &[(usize, i128)]| altered(&Coset::half_odds(4), others);
+/// The record with the points of its indices.
+pub fn with_points(mut record: Vec<i128>) -> Vec<i128> {
+    for place in INDICES {
+        let point = point_of(record[place]);
+        record[place + 1..place + 3].copy_from_slice(&point);
+    }
+    record
+}
+
+/// The words of the point of an index, by the Rust.
+fn point_of(index: i128) -> [i128; 2] {
+    let point = CirclePointIndex(index as usize).to_point();
+    [point.x, point.y].map(|coordinate| coordinate.0.into())
+}
+
+/// Whether a point isn't that of its index. The indices are in range.
+pub fn contradicts(record: &[i128]) -> bool {
+    INDICES.iter().any(|place| record[place + 1..place + 3] != point_of(record[*place]))
+}
+
+/// Records whose points are those of their indices, most with a step and a log size that no call makes together.
+fn unusual() -> Vec<Vec<i128>> {
+    let half_odds = |others: &[(usize, i128)]| with_points(altered(&Coset::half_odds(4), others));
+    vec![
+        half_odds(&[(0, ORDER - 1)]),
+        half_odds(&[(3, ORDER - 1)]),
+        half_odds(&[(3, 0)]),
+        half_odds(&[(0, ORDER - 1), (3, ORDER - 1)]),
+        half_odds(&[(LOG_SIZE, 0)]),
+        half_odds(&[(LOG_SIZE, 30)]),
+        half_odds(&[(LOG_SIZE, 31)]),
+    ]
+}
+
+/// Records of which a point isn't that of its index, off the circle and on it.
+fn contradicting() -> Vec<Vec<i128>> {
+    let odds = |others: &[(usize, i128)]| altered(&Coset::odds(3), others);
+    let half_odds = |others: &[(usize, i128)]| altered(&Coset::half_odds(4), others);
+    let record = odds(&[]);
+    let exchanged = [&record[..1], &record[4..6], &record[3..4], &record[1..3], &record[LOG_SIZE..]].concat();
     vec![
         vec![0; RECORD],
-        altered(&Coset::odds(3), &[(1, 0), (2, 0)]),
-        altered(&Coset::odds(3), &[(4, 1), (5, 5)]),
+        odds(&[(1, 0), (2, 0)]),
+        odds(&[(4, 1), (5, 5)]),
+        odds(&[(2, P - record[2])]),
+        odds(&[(5, P - record[5])]),
+        exchanged,
+        half_odds(&[(0, ORDER - 1)]),
+        half_odds(&[(3, ORDER - 1)]),
+        half_odds(&[(3, 0)]),
+        half_odds(&[(0, ORDER - 1), (3, ORDER - 1)]),
         altered(&Coset::odds(1), &[(1, P - 1), (2, P - 1), (4, P - 1), (5, P - 1)]),
-        altered_half_odds(&[(0, ORDER - 1)]),
-        altered_half_odds(&[(3, ORDER - 1)]),
-        altered_half_odds(&[(3, 0)]),
-        altered_half_odds(&[(0, ORDER - 1), (3, ORDER - 1)]),
-        altered_half_odds(&[(LOG_SIZE, 0)]),
-        altered_half_odds(&[(LOG_SIZE, 30)]),
-        altered_half_odds(&[(LOG_SIZE, 31)]),
+        altered(&Coset::subgroup(0), &[(1, 0)]),
+        altered(&Coset::subgroup(31), &[(4, 1), (5, 0)]),
     ]
 }
 
@@ -76,11 +116,11 @@ pub fn with_step_0() -> Vec<Vec<i128>> {
     let of_quarters = |log_size| [0, 1, 2, 3].map(|quarters: i128| (quarters << 29, log_size));
     let others = [(1, 0), ((1 << 29) + 1, 0), ((3 << 29) - 1, 0), (ORDER - 1, 0)];
     let numbers = [of_quarters(0), of_quarters(4), of_quarters(31), others].concat();
-    let record = |(index, log_size)| altered(&Coset::subgroup(0), &[(0, index), (LOG_SIZE, log_size)]);
+    let record = |(index, log_size)| with_points(altered(&Coset::subgroup(0), &[(0, index), (LOG_SIZE, log_size)]));
     numbers.into_iter().map(record).collect()
 }
 
-/// Records with one number that is refused, and with several.
+/// Records with one number that is refused, with several, and with one beside a point that isn't its index's.
 fn damaged() -> Vec<Vec<i128>> {
     let one = [
         (LOG_SIZE, 32),
@@ -96,8 +136,10 @@ fn damaged() -> Vec<Vec<i128>> {
         (4, P),
         (5, LARGEST_U32),
     ];
-    let several: [&[(usize, i128)]; 6] = [
+    let several: [&[(usize, i128)]; 8] = [
         &[(0, ORDER), (LOG_SIZE, 32)],
+        &[(0, 0), (5, P)],
+        &[(0, 0), (LOG_SIZE, 32)],
         &[(1, P), (LOG_SIZE, 32)],
         &[(1, P), (3, ORDER)],
         &[(2, P), (0, ORDER)],
@@ -109,7 +151,7 @@ fn damaged() -> Vec<Vec<i128>> {
 }
 
 pub static RECORDS: LazyLock<Vec<Vec<i128>>> =
-    LazyLock::new(|| [made().iter().map(numbers).collect(), disagreeing(), damaged()].concat());
+    LazyLock::new(|| [made().iter().map(numbers).collect(), unusual(), contradicting(), damaged()].concat());
 
 /// A number for a place of a record, in its range or above it.
 pub fn draw_number(place: usize, good: bool, random: &mut Random) -> i128 {
@@ -144,19 +186,19 @@ pub fn draw_made(random: &mut Random) -> Coset {
     }
 }
 
-/// A coset as the Rust makes it, now and then with other numbers at some places.
+/// A coset as the Rust makes it, now and then with another index or log size and the points that go with it.
 pub fn draw_good(random: &mut Random) -> Vec<i128> {
     let mut record = numbers(&draw_made(random));
     if random.one_in(4) {
         for _ in 0..1 + random.below(3) {
-            let place = random.below(RECORD as u64) as usize;
+            let place = *random.pick(&[INDICES[0], INDICES[1], LOG_SIZE]);
             record[place] = draw_number(place, true, random);
         }
     }
-    record
+    with_points(record)
 }
 
-/// A good record, or one with refused numbers.
+/// A good record, or one with refused numbers or points that aren't its indices'.
 pub fn draw_record(random: &mut Random) -> Vec<i128> {
     let mut record = draw_good(random);
     if random.one_in(3) {
@@ -165,10 +207,10 @@ pub fn draw_record(random: &mut Random) -> Vec<i128> {
     record
 }
 
-/// Puts refused numbers at up to three places.
+/// Puts other numbers at up to three places, half of them in their range.
 pub fn damage(record: &mut [i128], random: &mut Random) {
     for _ in 0..random.below(4) {
         let place = random.below(RECORD as u64) as usize;
-        record[place] = draw_number(place, false, random);
+        record[place] = draw_number(place, random.one_in(2), random);
     }
 }

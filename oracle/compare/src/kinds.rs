@@ -22,9 +22,10 @@ pub struct Refusal {
 }
 
 /// The numbers of refusals in the order of the table in docs/CALLS.md, which is the order of checking.
-pub const ROWS: [u32; 12] = [6, 4, 11, 8, 9, 1, 2, 3, 5, 7, 10, 12];
+pub const ROWS: [u32; 13] = [6, 4, 11, 8, 9, 1, 14, 2, 3, 5, 7, 10, 12];
 
-/// The refusal in the first of the rows; within a row the leftmost argument's.
+/// The refusal in the first of the rows; within a row the leftmost argument's. A record, which is checked wholly before
+/// anything else, is one kind with what is beside it.
 pub fn first_refusal(takes: &[Kind], input: &[Vec<i128>]) -> Option<Refusal> {
     let refusals = takes.iter().zip(input).filter_map(|(kind, numbers)| (kind.refusal)(numbers));
     refusals.min_by_key(|refusal| ROWS.iter().position(|number| *number == refusal.number))

@@ -79,10 +79,8 @@ fn print(name: &str, tally: &Tally) {
 fn record_all(folder: &Path, seed: u64) -> Result<(), String> {
     for (module, entries, share) in MODULES {
         let functions = entries.iter().map(function).collect::<Result<Vec<_>, _>>()?;
-        let slices = functions.iter().any(|function| function.slices());
         let free = entries.iter().any(|entry| entry.free.is_some());
-        let indices = functions.iter().any(|function| !function.indices.is_empty());
-        let mut text = record::header(module, slices, free, indices, seed);
+        let mut text = record::header(module, &functions, free, seed);
         for (entry, function) in entries.iter().zip(functions) {
             text += &record::lines(entry, function, seed, *share)?;
         }

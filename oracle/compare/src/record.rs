@@ -10,7 +10,10 @@ use common::random::Random;
 const MOST_NUMBERS: usize = 64;
 
 /// What the list is and how it was made.
-pub fn header(module: &str, slices: bool, free: bool, indices: bool, seed: u64) -> String {
+pub fn header(module: &str, functions: &[&Function], free: bool, seed: u64) -> String {
+    let slices = functions.iter().any(|function| function.slices());
+    let indices = functions.iter().any(|function| !function.indices.is_empty());
+    let records = functions.iter().any(|function| function.parameters.iter().any(|p| p.name == "step_index"));
     let text = format!(
         "# Answers of the functions with C linkage: {module}.\n\
          # Recorded by `oracle/` with seed {seed}, beside the Rust of starkware-libs/stwo, commit 826591c6c3.\n\
@@ -23,10 +26,19 @@ pub fn header(module: &str, slices: bool, free: bool, indices: bool, seed: u64) 
     let scratch = "# Where NUMBER is 0, the first words of scratch end as anything: they are recorded as they were.\n";
     let reduced =
         "# Point indices are below 2^31, and those of the Rust are read modulo 2^31. Where a step index is 0,\n\
-         # is_canonic and is_doubling_of have the answers of their definitions, not the Rust's.\n\
-         # Recorded anew for version 2 of the interface. Lines of version 1 that no longer hold take or answer with\n\
-         # the index 2^31, or are is_canonic's of index and step 0: they are retired, or have the new answer.\n";
-    text + if slices { slice } else { "" } + if free { scratch } else { "" } + if indices { reduced } else { "" }
+         # is_canonic and is_doubling_of have the answers of their definitions, not the Rust's.\n";
+    let since_2 =
+        "# Recorded anew for version 2 of the interface. Lines of version 1 that no longer hold take or answer with\n\
+         # the index 2^31: they are retired, or have the new answer.\n";
+    let since_3 = "# Recorded anew for version 3 of the interface. Lines of version 2 that no longer hold are in\n\
+         # contradicting_records.txt, with the refusals that are made instead.\n";
+    let anew = match (records, indices) {
+        (true, _) => since_3,
+        (false, true) => since_2,
+        (false, false) => "",
+    };
+    let notes = [(slices, slice), (free, scratch), (indices, reduced)];
+    text + &notes.into_iter().filter(|(has, _)| *has).map(|(_, note)| note).collect::<String>() + anew
 }
 
 /// The lines of a function, about `share` bytes at most; an error where the library doesn't answer as it should.

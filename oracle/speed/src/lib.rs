@@ -11,5 +11,5 @@ mod transform_rows;
 mod twiddles;
 
 pub use measure::{heading, measured, Row};
-pub use rows::ROWS;
+pub use rows::{RECORD_ROWS, ROWS};
 pub use transform_rows::{avx2_rows, PARTLY_ROWS, TRANSFORM_ROWS};

@@ -1,10 +1,10 @@
 //! Measures the library against the Rust of stwo, built as for a release.
 
-use speed::{avx2_rows, heading, measured, Row, PARTLY_ROWS, ROWS, TRANSFORM_ROWS};
+use speed::{avx2_rows, heading, measured, Row, PARTLY_ROWS, RECORD_ROWS, ROWS, TRANSFORM_ROWS};
 use std::process::ExitCode;
 
 fn main() -> ExitCode {
-    let rows = measured(&[ROWS, TRANSFORM_ROWS, PARTLY_ROWS, avx2_rows()].concat());
+    let rows = measured(&[ROWS, RECORD_ROWS, TRANSFORM_ROWS, PARTLY_ROWS, avx2_rows()].concat());
     println!("{}", heading());
     rows.iter().for_each(|row| println!("{}", row.line()));
     if rows.iter().all(Row::passes) {

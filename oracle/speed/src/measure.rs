@@ -40,14 +40,22 @@ impl Row {
 
     /// The row as it is printed below `heading`.
     pub fn line(&self) -> String {
-        let Row { what, rust, library, limit, .. } = self;
+        let Row { what, rust, library, .. } = self;
         let remark = match (self.equal, self.passes()) {
             (false, _) => "  the answers differ",
             (true, false) => "  above the limit",
             (true, true) => "",
         };
-        let limit = if limit.is_finite() { format!("{limit:.2}") } else { "none".to_string() };
-        format!("{what:<54}{rust:>12.3}{library:>12.3}{:>9.3}{limit:>9}{remark}", self.ratio())
+        format!("{what:<54}{rust:>12.3}{library:>12.3}{:>9.3}{:>9}{remark}", self.ratio(), self.shown_limit())
+    }
+
+    /// The limit, or that there is none.
+    pub fn shown_limit(&self) -> String {
+        if self.limit.is_finite() {
+            format!("{:.2}", self.limit)
+        } else {
+            "none".to_string()
+        }
     }
 }
 

@@ -35,6 +35,12 @@ pub static ROWS: &[fn() -> Row] = &[
     },
 ];
 
+/// What the look-ups of a record take in calls in which the Rust looks up no point.
+pub static RECORD_ROWS: &[fn() -> Row] = &[
+    || index_rows::coset_index_at("coset_index_at, 2^16 cosets", 1 << 16),
+    || index_rows::coset_is_doubling_of("coset_is_doubling_of, 2^16 pairs", 1 << 16),
+];
+
 /// The library may take a tenth longer than the Rust.
 const LIMIT: f64 = 1.10;
 

@@ -1,11 +1,11 @@
-// Cosets whose numbers are known to be in range: what the layers above compute with. These are no public calls.
+// Cosets that are known to pass their checks: what the layers above compute with. These are no public calls.
 ghost use mathlib.Core.Path.{_≡_};
 ghost use mathlib.Core.Bool.{_&&_};
 ghost use Prim.Native.Nat.{_+_, _≤_};
 ghost use Rattle.algebra.specs.Doubling.{iterate};
 ghost use Rattle.circle.specs.Index.{IsIndex, subgroupGen};
-ghost use Rattle.domains.specs.Record.{Fits};
-ghost use Rattle.domains.specs.Coset.{cosetOf, indexAt, doubled, samePoint, sameCoset, isDoublingOf, shifted, conjugated, iteratorOf};
+ghost use Rattle.domains.specs.Record.{Fits, samePoint};
+ghost use Rattle.domains.specs.Coset.{cosetOf, indexAt, doubled, sameCoset, isDoublingOf, shifted, conjugated, iteratorOf};
 use crate::coset::Coset;
 use crate::iterator::CosetIterator;
 use circle::index::CirclePointIndex;
@@ -96,7 +96,7 @@ fn both(first: bool, second: bool) -> bool
     second
 }
 
-fn same_point(p: CirclePoint, q: CirclePoint) -> bool
+pub fn same_point(p: CirclePoint, q: CirclePoint) -> bool
     ensures { λ r. ⌜ r ≡ samePoint p q ⌝ }
 {
     both(p.x.0 == q.x.0, p.y.0 == q.y.0)

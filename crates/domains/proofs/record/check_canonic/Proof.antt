@@ -9,24 +9,16 @@ is-log-size-requires c κs = search needs
 need-requires : tie.Need-need-requires
 need-requires c κs = search needs
 
-indices-requires : tie.Need-indices-requires
-indices-requires c κs = search needs
+indices-and-points-requires : tie.Need-indices-and-points-requires
+indices-and-points-requires c κs = search needs
 
 then-requires : tie.Need-then-requires
 then-requires c κs = search needs
 
-words-requires : tie.Need-words-requires
-words-requires c κs = search needs
-
-then-requires-2 : tie.Need-then-requires-2
-then-requires-2 c κs = search needs
-
 returns : tie.Need-returns
 returns c =
-    let size = one-said _ _ _ _ (c .before .before .before .before .need .ensures)
-    (c .before .before .before .before .before .is-log-size .ensures) in
-    canonic-said _ _ _ _ _ _ size (c .before .before .before .indices .ensures) (c .before .before .then .ensures)
-    (c .before .words .ensures) (c .then2 .ensures)
+    let size = one-said _ _ _ _ (c .before .before .need .ensures) (c .before .before .before .is-log-size .ensures) in
+    canonic-said _ _ _ _ size (c .before .indices-and-points .ensures) (c .then .ensures)
 
 pub check-canonic-spec : {M : Type 1} → statement M
 check-canonic-spec =
@@ -34,8 +26,6 @@ check-canonic-spec =
     (tie.spec
     is-log-size-requires
     need-requires
-    indices-requires
+    indices-and-points-requires
     then-requires
-    words-requires
-    then-requires-2
     returns)

@@ -24,15 +24,16 @@ pub fn write(folder: &Path, rows: &[Row], output: Output) -> Result<(), Failure>
 
 fn table(rows: &[Row]) -> String {
     let line = |row: &Row| {
-        let Row { what, rust, library, limit, .. } = row;
-        format!("| {what} | {rust:.3} | {library:.3} | {:.3} | {limit:.2} |\n", row.ratio())
+        let Row { what, rust, library, .. } = row;
+        format!("| {what} | {rust:.3} | {library:.3} | {:.3} | {} |\n", row.ratio(), row.shown_limit())
     };
     let lines: String = rows.iter().map(line).collect();
     format!(
         "# Benchmark\n\n\
         Written by `taripomune bench`: nanoseconds an element of the Rust and of the library, measured in turn in one\n\
         run, the time of the library divided by that of the Rust, and what this may be at most. The Rust of the transform\n\
-        is the library's algorithm (`oracle/speed`), the other one is stwo's.{}\n\n\
+        is the library's algorithm (`oracle/speed`), the other one is stwo's. A row without a limit has no bar in the\n\
+        plot.{}\n\n\
         ![The times of the library divided by those of the Rust](benchmark.svg)\n\n\
         | what | Rust | library | ratio | limit |\n|---|---|---|---|---|\n{lines}",
         processor().map_or(String::new(), |name| format!(" Processor: {name}."))

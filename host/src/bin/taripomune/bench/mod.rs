@@ -21,12 +21,12 @@ pub fn bench(_: Option<&Path>, _: Output) -> Result<(), Failure> {
 #[cfg(feature = "baselines")]
 pub fn bench(folder: Option<&Path>, output: Output) -> Result<(), Failure> {
     use crate::names::shown;
-    use speed::{ROWS, TRANSFORM_ROWS, heading, measured};
+    use speed::{RECORD_ROWS, ROWS, TRANSFORM_ROWS, heading, measured};
 
     if let Some(folder) = folder.filter(|folder| !folder.is_dir()) {
         return Err(Failure::Arguments(format!("{} is no folder", shown(folder))));
     }
-    let rows = measured(&[TRANSFORM_ROWS, ROWS].concat());
+    let rows = measured(&[TRANSFORM_ROWS, ROWS, RECORD_ROWS].concat());
     output.say(&heading());
     for row in &rows {
         output.say(&row.line());

@@ -11,8 +11,9 @@ const LEFT: f64 = 400.0;
 const RIGHT: f64 = 780.0;
 const TOP: f64 = 64.0;
 
-/// A bar for each row, with a mark at its limit, and a line where both sides take the same time.
+/// A bar for each row that has a limit, with a mark there, and a line where both sides take the same time.
 pub fn plot(rows: &[Row]) -> String {
+    let rows: Vec<&Row> = rows.iter().filter(|row| row.limit.is_finite()).collect();
     let longest = rows.iter().map(|row| row.ratio().max(row.limit)).fold(1.0, f64::max);
     let scale = Scale { end: (longest * 5.0).ceil() / 5.0 };
     let bottom = TOP + ROW * rows.len() as f64;
@@ -79,10 +80,12 @@ mod tests {
     use super::*;
 
     #[test]
-    fn each_row_has_a_bar_as_long_as_its_ratio() {
+    fn each_row_with_a_limit_has_a_bar_as_long_as_its_ratio() {
         let row = |what, library| Row { what, rust: 2.0, library, limit: 1.0, equal: true };
-        let text = plot(&[row("half", 1.0), row("a < b", 2.0)]);
+        let unlimited = Row { limit: f64::INFINITY, ..row("unlimited", 60.0) };
+        let text = plot(&[row("half", 1.0), unlimited, row("a < b", 2.0)]);
         assert_eq!(text.matches("<rect x=").count(), 2);
+        assert!(!text.contains("unlimited"));
         let axis = RIGHT - LEFT;
         for width in [axis / 2.0, axis] {
             assert!(text.contains(&format!("width=\"{width:.1}\"")), "{text}");
