@@ -70,6 +70,9 @@ typedef struct { uint32_t number; uint64_t position; uint32_t value; } tari_u32_
 typedef struct { uint32_t number; uint64_t position; uint64_t value; } tari_u64_reply;
 typedef struct { uint32_t number; uint64_t position; } tari_write_reply;
 typedef struct {
+    uint32_t number; uint64_t position; uint64_t multiplications; uint64_t inversions;
+} tari_batch_reply;
+typedef struct {
     uint32_t number; uint64_t position; uint64_t initial_index; uint32_t initial_x; uint32_t initial_y;
     uint64_t step_index; uint32_t step_x; uint32_t step_y; uint32_t log_size;
 } tari_coset_reply;
@@ -92,7 +95,7 @@ typedef struct {
  *
  * Raised with every change of a declaration of the header or of an answer. */
 
-#define TARI_VERSION 3
+#define TARI_VERSION 4
 
 /* TARI_VERSION of the library, to be compared with the header's. Never refuses. */
 tari_u32_reply tari_version(void);
@@ -275,31 +278,36 @@ tari_qm31_reply tari_m31_div_qm31(uint32_t a, uint32_t b0, uint32_t b1, uint32_t
 /* ---- Batch inversion ----
  *
  * A column and its destination are 1, 2 or 4 words an element; chunk sizes count elements. Words of a longer
- * destination stay. An empty column is accepted and writes nothing. */
+ * destination stay. An empty column is accepted and writes nothing.
+ *
+ * The reply has the multiplications of elements and the inversions that the passes made, an inversion's own products
+ * left out. A pass over n elements makes 3n - 3 and 1; where n is above 4 and a multiple of 4, however long the
+ * destination, it goes in four lanes and makes 3n + 1 and 1; over no elements it makes 0 and 0. A call without chunks
+ * is one pass, a chunked one is a pass over each chunk, and its counts are the sums. */
 
 /* Element k of dst becomes the inverse of element k of column. The two slices must not overlap, despite the name:
  * with one slice lent as both it answers number 0 and leaves wrong words. Refuses 8, 1, 3. */
-tari_write_reply tari_m31_batch_inverse_in_place(
+tari_batch_reply tari_m31_batch_inverse_in_place(
     const uint32_t *column, uint64_t column_len, uint32_t *dst, uint64_t dst_len);
 /* Element k of dst becomes the inverse of element k of column, chunk_size elements at a time. The two slices must
  * not overlap. Refuses 8, 9, 1, 3. */
-tari_write_reply tari_m31_batch_inverse_chunked(
+tari_batch_reply tari_m31_batch_inverse_chunked(
     const uint32_t *column, uint64_t column_len, uint32_t *dst, uint64_t dst_len, uint64_t chunk_size);
 /* Element k of dst becomes the inverse of element k of column. The two slices must not overlap, despite the name:
  * with one slice lent as both it answers number 0 and leaves wrong words. Refuses 8, 1, 3. */
-tari_write_reply tari_cm31_batch_inverse_in_place(
+tari_batch_reply tari_cm31_batch_inverse_in_place(
     const uint32_t *column, uint64_t column_len, uint32_t *dst, uint64_t dst_len);
 /* Element k of dst becomes the inverse of element k of column, chunk_size elements at a time. The two slices must
  * not overlap. Refuses 8, 9, 1, 3. */
-tari_write_reply tari_cm31_batch_inverse_chunked(
+tari_batch_reply tari_cm31_batch_inverse_chunked(
     const uint32_t *column, uint64_t column_len, uint32_t *dst, uint64_t dst_len, uint64_t chunk_size);
 /* Element k of dst becomes the inverse of element k of column. The two slices must not overlap, despite the name:
  * with one slice lent as both it answers number 0 and leaves wrong words. Refuses 8, 1, 3. */
-tari_write_reply tari_qm31_batch_inverse_in_place(
+tari_batch_reply tari_qm31_batch_inverse_in_place(
     const uint32_t *column, uint64_t column_len, uint32_t *dst, uint64_t dst_len);
 /* Element k of dst becomes the inverse of element k of column, chunk_size elements at a time. The two slices must
  * not overlap. Refuses 8, 9, 1, 3. */
-tari_write_reply tari_qm31_batch_inverse_chunked(
+tari_batch_reply tari_qm31_batch_inverse_chunked(
     const uint32_t *column, uint64_t column_len, uint32_t *dst, uint64_t dst_len, uint64_t chunk_size);
 
 /* ---- Points over M31 ----

@@ -11,6 +11,11 @@ fn main() -> Result<(), Refusal> {
     println!("inverses: {}", inverses.iter().map(M31::to_string).collect::<Vec<_>>().join(" "));
     assert!(column.iter().zip(&inverses).all(|(element, inverse)| *element * *inverse == M31::one()));
 
+    // What was made for them: 6 is no multiple of 4, so a pass takes 3 times 6 less 3 multiplications and one inversion.
+    let counts = batch_inverse_in_place(&column, &mut [M31::zero(); 6])?;
+    println!("made:     {} multiplications, {} inversion", counts.multiplications, counts.inversions);
+    assert_eq!((counts.multiplications, counts.inversions), (15, 1));
+
     let secure = [QM31::from(7), QM31::from_u32_unchecked(1, 2, 3, 4)?];
     assert_eq!(batch_inverse(&secure)?[1] * secure[1], QM31::one());
 

@@ -49,8 +49,8 @@ pub use circle::{
 pub use coset::{Coset, CosetIterator};
 pub use domain::{CircleDomain, CircleDomainIndexIterator, MAX_CIRCLE_DOMAIN_LOG_SIZE, MIN_CIRCLE_DOMAIN_LOG_SIZE};
 pub use fields::{
-    BaseField, CM31, Field, M31, MODULUS_BITS, N_BYTES_FELT, P, P2, P4, QM31, R, SECURE_EXTENSION_DEGREE, SecureField,
-    Word, batch_inverse, batch_inverse_chunked, batch_inverse_in_place,
+    BaseField, BatchCounts, CM31, Field, M31, MODULUS_BITS, N_BYTES_FELT, P, P2, P4, QM31, R, SECURE_EXTENSION_DEGREE,
+    SecureField, Word, batch_inverse, batch_inverse_chunked, batch_inverse_in_place,
 };
 pub use orders::{
     bit_reverse, bit_reverse_coset_to_circle_domain_order, bit_reverse_index, circle_domain_order_to_coset_order,

@@ -24,7 +24,7 @@ fn function(prototype: &Prototype, header: &Header) -> String {
     let declared: String = parameters.iter().filter_map(|parameter| declared(parameter, parameters)).collect();
     let taken: String = parameters.iter().map(|parameter| taken(parameter, parameters)).collect();
     let exits: String = parameters.iter().map(exit).collect();
-    let fields = &header.reply_of(prototype).fields[2..];
+    let fields = header.reply_of(prototype).compared();
     let indices: Vec<usize> = (0..fields.len()).filter(|place| is_index(&fields[*place].name)).collect();
     let values: Vec<String> = fields.iter().map(|f| format!("reply.{} as u64", f.name)).collect();
     format!(

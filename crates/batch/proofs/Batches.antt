@@ -1,7 +1,7 @@
 -- What the checks of a batch tell, and the parts that a column is inverted in.
 use Prim.Native.Nat.{ℕ, _+_, _-_, _*_, _/_, _%_, _≤_, _<_}
 use mathlib.Core.Path.{_≡_, refl, sym, _∙_, ap, ap₂, subst, subst⁻¹}
-use mathlib.Core.Bool.{Bool, true, false, not, cond, _&&_, and-eq-true-iff, true≢false}
+use mathlib.Core.Bool.{Bool, not, _&&_, and-eq-true-iff, true≢false}
 use mathlib.Core.List.{List, _++_}
 use native.Mathlib.Nat as N
 use native.Mathlib.Decide.{decLt}
@@ -13,88 +13,72 @@ use borrow.Author.Tests.{leb-true, leb-false, le-leb, eqb-true, eqb-false, not-t
 use borrow.Rule.Slice.PartMut.{midOf, putMid, mid-len}
 use Rattle.algebra.specs.M31.{P}
 use Rattle.batch.specs.Batch.{Layout, ColumnField, m31Column, cm31Column, qm31Column, columnOf, inverted}
-use Rattle.batch.specs.Batch.{firstZero, count, lengthsFit, nonzero, wordsAnswer, inPlaceAnswer, chunkedAnswer, batchExit}
+use Rattle.batch.specs.Batch.{firstZero, count, lengthsFit, nonzero, invertible, chunkedChecks, batchExit}
 use Rattle.batch.specs.Layouts.{LayoutLaws}
 use Rattle.batch.specs.Passes.{Units, UnitColumn, Holds, size, at, inverses, unitsOf}
 use Rattle.batch.specs.PassContracts.{Inverted}
 use Rattle.batch.specs.declared.Field.{Field}
 use Rattle.batch.specs.declared.Field.the-variants as F
-use Rattle.fields.specs.declared.answer.WriteAnswer.{WriteAnswer}
-use Rattle.fields.specs.declared.answer.WriteAnswer.the-variants.{Written, Refused}
+use Rattle.batch.specs.declared.counts.Counts.{Counts}
+use Rattle.batch.specs.declared.counts.BatchAnswer.{BatchAnswer}
+use Rattle.batch.specs.declared.counts.BatchAnswer.the-variants.{Value, Refused}
+use Rattle.fields.specs.declared.check.Check.{Check}
+use Rattle.fields.specs.declared.check.Check.the-variants as C
 use Rattle.fields.specs.declared.refusal.Refusal.{Refusal}
 use Rattle.fields.specs.declared.refusal.Refusal.the-variants.{Length, Chunk}
 use Rattle.fields.specs.Columns.{isBad, firstBad, words}
-use Rattle.fields.specs.Check.{need}
-use Rattle.fields.specs.CheckLaws.{Hold, hold-split, hold-passes, accepted-hold}
+use Rattle.fields.specs.Check.{Checks, need, checked, outcome}
+use Rattle.fields.specs.CheckLaws.{Hold, hold-split, at-refused, at-passed}
 use Rattle.fields.specs.SearchLaws.{None, first-none, none-found}
-use Rattle.batch.proofs.Montgomery.{within, inverted-holds, length-inverted}
+use Rattle.batch.proofs.Montgomery.{within}
+use Rattle.batch.proofs.InvertedLists.{inverted-holds, length-inverted}
 
 abbrev pub zeroAt : ColumnField → List ℕ → ℕ → Bool
 zeroAt F column k = F .isZero (F .layout .read column (k * F .layout .width))
 
-unfoldable isWritten : WriteAnswer → Bool
-isWritten Written = true
-isWritten (Refused why) = false
-
-refused : (why : Refusal) → ¬ (Refused why ≡ Written)
-unfolding isWritten
-refused why e = true≢false (sym (ap isWritten e))
-
 module _ (F : ColumnField) (column : List ℕ) where
-  -- neither bad words nor zeros: the answer is Written
-  pub written : None (isBad column) (length column) → None (zeroAt F column) (count F column) → wordsAnswer F column ≡ Written
-  unfolding wordsAnswer
-  written h k =
+  -- neither bad words nor zeros: the elements pass
+  pub passed : None (isBad column) (length column) → None (zeroAt F column) (count F column) → outcome (invertible F column) ≡ C.Passed
+  passed h k =
       let e = first-none (isBad column) (length column) (length column) refl h in
       let f = first-none (zeroAt F column) (count F column) (count F column) refl k in
       rw (← e, ← f, le-leb (length column) (length column) (omega arith), le-leb (count F column) (count F column) (omega arith))
 
   -- and only then
-  all-hold : wordsAnswer F column ≡ Written → Hold (words column) × Hold (nonzero F column)
-  unfolding wordsAnswer
-  all-hold e = hold-split (words column) (nonzero F column) (accepted-hold (words column ++ nonzero F column) Refused Written refused e)
+  no-bad : Hold (invertible F column) → None (isBad column) (length column)
+  no-bad h = none-found (isBad column) (length column)
+      (leb-true (length column) (firstBad column) (hold-split (words column) (nonzero F column) h .0 .0))
 
-  pub no-bad : wordsAnswer F column ≡ Written → None (isBad column) (length column)
-  no-bad e = none-found (isBad column) (length column) (leb-true (length column) (firstBad column) (all-hold e .0 .0))
-
-  pub no-zero : wordsAnswer F column ≡ Written → None (zeroAt F column) (count F column)
-  no-zero e = none-found (zeroAt F column) (count F column) (leb-true (count F column) (firstZero F column) (all-hold e .1 .0))
-
--- chunks of one element are refused as no chunks are
-pub chunked-by-one : (F : ColumnField) (column : List ℕ) (dst : ℕ) → chunkedAnswer F 1 column dst ≡ inPlaceAnswer F column dst
-unfolding chunkedAnswer inPlaceAnswer
-chunked-by-one F column dst = refl
+  no-zero : Hold (invertible F column) → None (zeroAt F column) (count F column)
+  no-zero h = none-found (zeroAt F column) (count F column)
+      (leb-true (count F column) (firstZero F column) (hold-split (words column) (nonzero F column) h .1 .0))
 
 -- what an accepted batch passed
 pub record Accepted (F : ColumnField) (chunk : ℕ) (column : List ℕ) (dst : ℕ) : Type 0 where
   pub whole : length column % F .layout .width ≡ 0
   pub room : length column ≤ dst
   pub chunked : 0 < chunk
-  pub words : wordsAnswer F column ≡ Written
+  pub elements : Hold (invertible F column)
 
-pub accepted : (F : ColumnField) (chunk : ℕ) (column : List ℕ) (dst : ℕ) → chunkedAnswer F chunk column dst ≡ Written
+pub accepted : (F : ColumnField) (chunk : ℕ) (column : List ℕ) (dst : ℕ) → Hold (chunkedChecks F chunk column dst)
     → Accepted F chunk column dst
-unfolding chunkedAnswer wordsAnswer
-accepted F chunk column dst e =
-    let tests = need (lengthsFit F (length column) dst) Length ++ (need (not (eqb chunk 0)) Chunk ++ (words column ++ nonzero F column)) in
-    let lengths = hold-split (need (lengthsFit F (length column) dst) Length)
-    (need (not (eqb chunk 0)) Chunk ++ (words column ++ nonzero F column))
-    (accepted-hold tests Refused Written refused e) in
-    let chunks = hold-split (need (not (eqb chunk 0)) Chunk) (words column ++ nonzero F column) (lengths .1) in
+accepted F chunk column dst h =
+    let lengths = hold-split (need (lengthsFit F (length column) dst) Length) (need (not (eqb chunk 0)) Chunk ++ invertible F column) h in
+    let chunks = hold-split (need (not (eqb chunk 0)) Chunk) (invertible F column) (lengths .1) in
     let q = and-eq-true-iff (eqb (length column % F .layout .width) 0 && eqb (dst % F .layout .width) 0) (leb (length column) dst) .0
     (lengths .0 .0) in
     let r = and-eq-true-iff (eqb (length column % F .layout .width) 0) (eqb (dst % F .layout .width) 0) .0 (q .0) in record {
       whole = eqb-true (length column % F .layout .width) 0 (r .0);
       room = leb-true (length column) dst (q .1);
       chunked = N.pos-of-ne-zero (eqb-false chunk 0 (not-true (eqb chunk 0) (chunks .0 .0)));
-      words = hold-passes (words column ++ nonzero F column) Refused Written (chunks .1);
+      elements = chunks .1;
     }
 
 below : (column : List ℕ) → None (isBad column) (length column) → (j : ℕ) → j < length column → getD column j 0 < P
 below column h j l = leb-false P (getD column j 0) (h .none j l)
 
 -- a column that is accepted holds elements that can be inverted
-pub column-of : (f : Field) (column : List ℕ) → length column % columnOf f .layout .width ≡ 0 → wordsAnswer (columnOf f) column ≡ Written
+pub column-of : (f : Field) (column : List ℕ) → length column % columnOf f .layout .width ≡ 0 → Hold (invertible (columnOf f) column)
     → UnitColumn (unitsOf f) (size (unitsOf f) column) column
 unfolding columnOf unitsOf
 column-of F.M31 column r e =
@@ -126,18 +110,33 @@ same-width F.M31 = refl
 same-width F.CM31 = refl
 same-width F.QM31 = refl
 
-pub same-exit : (f : Field) {column dst exit : List ℕ} {answer : WriteAnswer} → Written ≡ answer → Inverted (unitsOf f) column dst exit
-    → exit ≡ batchExit (columnOf f) answer column dst
+same-exit : (f : Field) (column dst : List ℕ) {exit : List ℕ} (counts : Counts) → Inverted (unitsOf f) column dst exit
+    → exit ≡ batchExit (columnOf f) (Value counts) column dst
 unfolding columnOf unitsOf batchExit
-same-exit F.M31 {column} {dst} e i = i .result ∙ ap (λ (a : WriteAnswer). batchExit m31Column a column dst) e
-same-exit F.CM31 {column} {dst} e i = i .result ∙ ap (λ (a : WriteAnswer). batchExit cm31Column a column dst) e
-same-exit F.QM31 {column} {dst} e i = i .result ∙ ap (λ (a : WriteAnswer). batchExit qm31Column a column dst) e
+same-exit F.M31 column dst counts i = i .result
+same-exit F.CM31 column dst counts i = i .result
+same-exit F.QM31 column dst counts i = i .result
 
--- a refused batch leaves the destination as it is
-pub refused-exit : (F : ColumnField) (column : List ℕ) {dst : List ℕ} {why : Refusal} {answer : WriteAnswer} → Refused why ≡ answer
-    → dst ≡ batchExit F answer column dst
-unfolding batchExit
-refused-exit F column {dst} e = ap (λ (a : WriteAnswer). batchExit F a column dst) e
+-- a batch with these checks and counts: what is answered, and what is left in the destination
+module _ (f : Field) (checks : Checks) (counts : Counts) (column dst : List ℕ) where
+  pub record Answered (exit : List ℕ) (r : BatchAnswer) : Type 0 where
+    pub answer : r ≡ checked checks Refused (Value counts)
+    pub destination : exit ≡ batchExit (columnOf f) (checked checks Refused (Value counts)) column dst
+
+  pub refused-batch : {r : Check} {why : Refusal} → r ≡ outcome checks → r ≡ C.Refused why → Answered dst (Refused why)
+  unfolding batchExit
+  refused-batch {r} {why} e h =
+      let answered = at-refused checks r why Refused (Value counts) e h in
+      record { answer = answered; destination = ap (λ (a : BatchAnswer). batchExit (columnOf f) a column dst) answered }
+
+  pub accepted-batch : {r : Check} {exit : List ℕ} {made : Counts} → r ≡ outcome checks → r ≡ C.Passed → made ≡ counts
+      → Inverted (unitsOf f) column dst exit → Answered exit (Value made)
+  accepted-batch {r} {made = made} e h m i =
+      let answered = at-passed checks r Refused (Value made) (Value counts) e h (ap Value m) in
+      record {
+        answer = answered;
+        destination = same-exit f column dst made i ∙ ap (λ (a : BatchAnswer). batchExit (columnOf f) a column dst) answered;
+      }
 
 pub width-positive : (f : Field) → 0 < columnOf f .layout .width
 unfolding columnOf
@@ -196,7 +195,7 @@ module _ (U : Units) (column : List ℕ) (n a b : ℕ) (c : UnitColumn U n colum
   part-length : (l : List ℕ) → n * width ≤ length l → length (part l) ≡ b * width - a * width
   part-length l h = mid-len (a * width) (b * width) l (N.le-trans (N.mul-le-mul-right {m = b} {n = n} width inside) h)
 
-  pub part-column : UnitColumn U (b - a) (part column)
+  part-column : UnitColumn U (b - a) (part column)
   part-column = record {
     whole = part-length column (omega (arith, c .whole)) ∙ sym between;
     units = λ i h. subst (U .Unit) (sym (part-at column i (omega arith))) (c .units (a + i) (omega arith));
@@ -215,7 +214,7 @@ module _ (U : Units) (column : List ℕ) (n a b : ℕ) (c : UnitColumn U n colum
     unfolding inner
     inner-length = length-inverted U (part column) (part dst) (b - a) ∙ part-length dst long
 
-    pub part-kept : (before : List ℕ) → Kept (a * width) dst before → Kept (b * width) after before
+    part-kept : (before : List ℕ) → Kept (a * width) dst before → Kept (b * width) after before
     unfolding inner
     part-kept before k = record {
       kept = λ j h.
@@ -243,14 +242,14 @@ module _ (U : Units) (column : List ℕ) (n a b : ℕ) (c : UnitColumn U n colum
         (omega arith) (omega arith)
         ∙ ap (U .inverse) (part-at column i h)
 
-    pub part-holds : Holds U (inverses U column) 0 a dst → Holds U (inverses U column) 0 b after
+    part-holds : Holds U (inverses U column) 0 a dst → Holds U (inverses U column) 0 b after
     part-holds h =
         record { holds = λ k lo hi. elim (decLt k a) [ yes lt ↦ below-part k lt ∙ h .holds k lo lt | no ge ↦ above k hi (omega arith) ] }
       where
         above : (k : ℕ) → k < b → a + (k - a) ≡ k → at U after k ≡ inverses U column k
         above k hi q = ap (at U after) (sym q) ∙ in-part (k - a) (omega arith) ∙ ap (inverses U column) q
 
-order : (w a b : ℕ) → 0 < w → a * w ≤ b * w → a ≤ b
+pub order : (w a b : ℕ) → 0 < w → a * w ≤ b * w → a ≤ b
 order w a b p h = elim (decLt b a) [ yes lt ↦ omega (arith, within w b a lt) | no ge ↦ omega arith ]
 
 -- a part by its first and last word, which are those of elements
@@ -271,7 +270,7 @@ module _ (U : Units) (column : List ℕ) (n : ℕ) (c : UnitColumn U n column) (
   same-part : (l : List ℕ) → mid l ≡ midOf (from / width * width) (to / width * width - from / width * width) l
   same-part l = ap₂ (λ (s e : ℕ). midOf s (e - s) l) start end
 
-  part-count : length (mid column) / width ≡ to / width - from / width
+  pub part-count : length (mid column) / width ≡ to / width - from / width
   part-count =
       ap (λ (l : List ℕ). length l / width) (same-part column)
       ∙ ap (λ (k : ℕ). k / width) (part-column U column n (from / width) (to / width) c a≤b b≤n .whole)

@@ -7,10 +7,11 @@ use lib.Bits.{bitOr}
 use lib.ListN.{length, getD}
 use borrow.Author.Tests.{lt-leb, ne-eqb}
 use Rattle.algebra.specs.M31.{P}
-use Rattle.fields.specs.declared.answer.WriteAnswer.the-variants.{Written}
+use Rattle.fields.specs.Check.{outcome}
+use Rattle.fields.specs.declared.check.Check.the-variants.{Passed}
 use Rattle.fields.specs.Seen.{Seen, or-above}
-use Rattle.batch.specs.Batch.{m31Column, wordsAnswer}
-use Rattle.batch.proofs.Batches.{written}
+use Rattle.batch.specs.Batch.{m31Column, invertible}
+use Rattle.batch.proofs.Batches.{passed}
 
 -- the word less 1 and the word plus 1, modulo 2^32
 abbrev pub around : ℕ → ℕ
@@ -24,10 +25,11 @@ in-range w seen h a l =
     let o = or-above ((w + 4294967295) % 4294967296) ((w + 1) % 4294967296) in
     (omega (arith, o .0, o .1), λ e. omega (arith, o .0, o .1))
 
-pub seen-written : (column : List ℕ) (seen : ℕ) → ((j : ℕ) → getD column j 0 < 4294967296) → Seen around column (length column) seen → seen < 2147483648
-    → wordsAnswer m31Column column ≡ Written
-seen-written column seen fit h l =
-    written m31Column column
+pub seen-passed : (column : List ℕ) (seen : ℕ) → ((j : ℕ) → getD column j 0 < 4294967296) → Seen around column (length column) seen
+    → seen < 2147483648
+    → outcome (invertible m31Column column) ≡ Passed
+seen-passed column seen fit h l =
+    passed m31Column column
     (record { none = λ j lt. lt-leb P (getD column j 0) (word j lt .0) })
     (record { none = λ k lt. ne-eqb (getD column (k * 1) 0) 0 (word (k * 1) (omega arith) .1) })
   where

@@ -8,10 +8,11 @@ use Rattle.fields.specs.Words.{invP, complexInverse, quarticInverse}
 use Rattle.fields.specs.Check.{Checks, need, checked}
 use Rattle.fields.specs.Search.{first}
 use Rattle.fields.specs.Columns.{words}
+use Rattle.batch.specs.Counts.{passCounts, chunkedCounts}
 use Rattle.batch.specs.declared.Field.{Field}
 use Rattle.batch.specs.declared.Field.the-variants as F
-use Rattle.fields.specs.declared.answer.WriteAnswer.{WriteAnswer}
-use Rattle.fields.specs.declared.answer.WriteAnswer.the-variants.{Written, Refused}
+use Rattle.batch.specs.declared.counts.BatchAnswer.{BatchAnswer}
+use Rattle.batch.specs.declared.counts.BatchAnswer.the-variants.{Value, Refused}
 use Rattle.fields.specs.declared.refusal.Refusal.the-variants.{Length, Chunk, Inverse}
 
 -- How an element lies in a column: so many words, read and written from a word on.
@@ -83,22 +84,28 @@ module _ (F : ColumnField) where
   abbrev pub nonzero : List ℕ → Checks
   nonzero column = need (leb (count column) (firstZero column)) (Inverse (firstZero column))
 
-  unfoldable pub wordsAnswer : List ℕ → WriteAnswer
-  wordsAnswer column = checked (words column ++ nonzero column) Refused Written
+  -- every word below P, else number 1; then no zero
+  abbrev pub invertible : List ℕ → Checks
+  invertible column = words column ++ nonzero column
 
-  -- lengths that fit, else number 8; then the words
-  unfoldable pub inPlaceAnswer : List ℕ → ℕ → WriteAnswer
-  inPlaceAnswer column dst =
-      checked (need (lengthsFit (length column) dst) Length ++ words column ++ nonzero column) Refused Written
+  -- lengths that fit, else number 8; then the elements
+  abbrev pub inPlaceChecks : List ℕ → ℕ → Checks
+  inPlaceChecks column dst = need (lengthsFit (length column) dst) Length ++ invertible column
 
-  -- lengths that fit, else number 8; a chunk size that isn't 0, else number 9; then the words
-  unfoldable pub chunkedAnswer : ℕ → List ℕ → ℕ → WriteAnswer
-  chunkedAnswer chunk column dst =
-      checked
-      (need (lengthsFit (length column) dst) Length ++ need (not (eqb chunk 0)) Chunk ++ words column ++ nonzero column)
-      Refused Written
+  -- lengths that fit, else number 8; a chunk size that isn't 0, else number 9; then the elements
+  abbrev pub chunkedChecks : ℕ → List ℕ → ℕ → Checks
+  chunkedChecks chunk column dst =
+      need (lengthsFit (length column) dst) Length ++ need (not (eqb chunk 0)) Chunk ++ invertible column
+
+  -- the counts of one pass over the column
+  unfoldable pub inPlaceAnswer : List ℕ → ℕ → BatchAnswer
+  inPlaceAnswer column dst = checked (inPlaceChecks column dst) Refused (Value (passCounts (count column)))
+
+  -- the counts of one pass over each chunk
+  unfoldable pub chunkedAnswer : ℕ → List ℕ → ℕ → BatchAnswer
+  chunkedAnswer chunk column dst = checked (chunkedChecks chunk column dst) Refused (Value (chunkedCounts chunk (count column)))
 
   -- what a call with this answer leaves in the destination
-  unfoldable pub batchExit : WriteAnswer → List ℕ → List ℕ → List ℕ
-  batchExit Written column dst = inverted (F .layout) (F .inverse) (count column) column dst
+  unfoldable pub batchExit : BatchAnswer → List ℕ → List ℕ → List ℕ
+  batchExit (Value counts) column dst = inverted (F .layout) (F .inverse) (count column) column dst
   batchExit (Refused why) column dst = dst

@@ -1,4 +1,5 @@
 -- definitions
+pub mod Counts
 pub mod Batch
 -- laws
 pub mod Layouts

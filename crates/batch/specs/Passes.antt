@@ -1,5 +1,5 @@
 -- Montgomery's trick, for any field: products up and inverses down a column, one element or four side by side at a time.
-use Prim.Native.Nat.{ℕ, zero, suc, _*_, _/_, _≤_, _<_}
+use Prim.Native.Nat.{ℕ, zero, suc, _+_, _*_, _/_, _≤_, _<_}
 use mathlib.Core.Path.{_≡_}
 use mathlib.Core.List.{List}
 use lib.ListN.{length}
@@ -21,6 +21,8 @@ pub record Units : Type 1 where
   pub layout : Layout
   pub laws : LayoutLaws layout
   pub mul : layout .El → layout .El → layout .El
+  -- how many multiplications of field elements `mul` makes
+  pub multiplications : ℕ
   pub inverse : layout .El → layout .El
   pub Unit : layout .El → Type 0
   pub mul-unit : (a b : layout .El) → Unit a → Unit b → Unit (mul a b)
@@ -35,6 +37,7 @@ fieldUnits W K H width read write laws = record {
   layout = record { El = W .El; width = width; read = read; write = write };
   laws = laws;
   mul = W .mul;
+  multiplications = 1;
   inverse = H .inverse;
   Unit = R.Unit W K H;
   mul-unit = R.mul-unit W K H;
@@ -49,6 +52,7 @@ pairUnits U = record {
   layout = pairLayout (U .layout);
   laws = pair-laws (U .layout) (U .laws);
   mul = λ a b. (U .mul (a .0) (b .0), U .mul (a .1) (b .1));
+  multiplications = U .multiplications + U .multiplications;
   inverse = onPair (U .inverse);
   Unit = λ a. U .Unit (a .0) × U .Unit (a .1);
   mul-unit = λ a b u v. (U .mul-unit (a .0) (b .0) (u .0) (v .0), U .mul-unit (a .1) (b .1) (u .1) (v .1));

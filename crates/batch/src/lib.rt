@@ -4,15 +4,21 @@ ghost use mathlib.Core.Bool.{true, cond, _&&_};
 ghost use Prim.Native.Nat.{_+_, _*_, _/_, _-_, _%_, _≤_, _<_};
 ghost use lib.Dec.{leb, eqb};
 ghost use lib.ListN.{length};
-ghost use Rattle.batch.specs.Batch.{columnOf, firstZero, wordsAnswer, inPlaceAnswer, chunkedAnswer, batchExit, m31Column};
-ghost use Rattle.batch.specs.Passes.{unitsOf};
+ghost use Rattle.batch.specs.Counts.{passCounts, chunkedCounts};
+ghost use Rattle.batch.specs.Batch.{columnOf, m31Column, firstZero, invertible, chunkedChecks};
+ghost use Rattle.batch.specs.Batch.{inPlaceAnswer, chunkedAnswer, batchExit};
+ghost use Rattle.batch.specs.Passes.{unitsOf, size};
 ghost use Rattle.batch.specs.PassContracts.{Inverting, InvertingParts, Inverted};
-ghost use Rattle.fields.specs.declared.answer.WriteAnswer.the-variants.{Written};
-use fields::answer::WriteAnswer;
+ghost use Rattle.fields.specs.Check.{outcome};
+ghost use Rattle.fields.specs.declared.check.Check.the-variants.{Passed};
+use crate::counts::BatchAnswer;
+use crate::counts::Counts;
+use fields::check::Check;
 use fields::columns::first_bad;
 use fields::refusal::Refusal;
 
 mod cm31;
+pub mod counts;
 mod m31;
 mod qm31;
 
@@ -79,7 +85,7 @@ fn first_zero(field: Field, column: &[u32]) -> usize
 // Whether every word is from 1 to P - 1. Just then a word less 1 and a word plus 1, both modulo 2^32, are below 2^31.
 // It looks at all words without a branch; only a column that has a bad word or a zero is searched for it.
 fn all_invertible(column: &[u32]) -> bool
-    ensures { λ r. ⌜ (r ≡ true → wordsAnswer m31Column (now (column .entry)) ≡ Written) ⌝ }
+    ensures { λ r. ⌜ (r ≡ true → outcome (invertible m31Column (now (column .entry))) ≡ Passed) ⌝ }
 {
     let mut seen: u32 = 0;
     let mut i: usize = 0;
@@ -92,27 +98,27 @@ fn all_invertible(column: &[u32]) -> bool
 }
 
 // Bad words, then zeros.
-fn search_words(field: Field, column: &[u32]) -> WriteAnswer
-    ensures { λ r. ⌜ r ≡ wordsAnswer (columnOf field) (now (column .entry)) ⌝ }
+fn search_words(field: Field, column: &[u32]) -> Check
+    ensures { λ r. ⌜ r ≡ outcome (invertible (columnOf field) (now (column .entry))) ⌝ }
 {
     let bad = first_bad(column);
     if bad < column.len() {
-        return WriteAnswer::Refused(Refusal::Word(bad as u64));
+        return Check::Refused(Refusal::Word(bad as u64));
     }
     let zero = first_zero(field, column);
     if zero < column.len() / width(field) {
-        return WriteAnswer::Refused(Refusal::Inverse(zero as u64));
+        return Check::Refused(Refusal::Inverse(zero as u64));
     }
-    WriteAnswer::Written
+    Check::Passed
 }
 
-fn check_words(field: Field, column: &[u32]) -> WriteAnswer
-    ensures { λ r. ⌜ r ≡ wordsAnswer (columnOf field) (now (column .entry)) ⌝ }
+fn check_words(field: Field, column: &[u32]) -> Check
+    ensures { λ r. ⌜ r ≡ outcome (invertible (columnOf field) (now (column .entry))) ⌝ }
 {
     match field {
         Field::M31 => {
             if all_invertible(column) {
-                return WriteAnswer::Written;
+                return Check::Passed;
             }
             search_words(field, column)
         }
@@ -120,23 +126,24 @@ fn check_words(field: Field, column: &[u32]) -> WriteAnswer
     }
 }
 
-// What a batch answers, before anything is written.
-fn check(field: Field, chunk: usize, column: &[u32], dst: usize) -> WriteAnswer
-    ensures { λ r. ⌜ r ≡ chunkedAnswer (columnOf field) chunk (now (column .entry)) dst ⌝ }
+// What a batch checks, before anything is written.
+fn check(field: Field, chunk: usize, column: &[u32], dst: usize) -> Check
+    ensures { λ r. ⌜ r ≡ outcome (chunkedChecks (columnOf field) chunk (now (column .entry)) dst) ⌝ }
 {
     if !lengths_fit(width(field), column.len(), dst) {
-        return WriteAnswer::Refused(Refusal::Length);
+        return Check::Refused(Refusal::Length);
     }
     if chunk == 0 {
-        return WriteAnswer::Refused(Refusal::Chunk);
+        return Check::Refused(Refusal::Chunk);
     }
     check_words(field, column)
 }
 
-// One chunk.
-fn invert(field: Field, column: &[u32], dst: &mut [u32])
+// One pass.
+fn invert(field: Field, column: &[u32], dst: &mut [u32]) -> Counts
     requires { ⌜ Inverting (unitsOf field) (now column) (now dst) ⌝ }
-    ensures { λ _. ⌜ Inverted (unitsOf field) (now (column .entry)) (now (dst .entry)) (now (dst .exit)) ⌝ }
+    ensures { λ r. ⌜ Inverted (unitsOf field) (now (column .entry)) (now (dst .entry)) (now (dst .exit))
+        × (r ≡ passCounts (size (unitsOf field) (now (column .entry)))) ⌝ }
 {
     match field {
         Field::M31 => m31::invert(column, dst),
@@ -156,16 +163,25 @@ fn part_end(from: usize, words: usize, len: usize) -> usize
     from + words
 }
 
-// Part after part of so many words.
-fn invert_parts(field: Field, column: &[u32], dst: &mut [u32], words: usize)
+// Part after part of so many words, one pass over each; what the passes made together.
+fn invert_parts(field: Field, column: &[u32], dst: &mut [u32], words: usize) -> Counts
     requires { ⌜ InvertingParts (unitsOf field) (now column) (now dst) words ⌝ }
-    ensures { λ _. ⌜ Inverted (unitsOf field) (now (column .entry)) (now (dst .entry)) (now (dst .exit)) ⌝ }
+    ensures { λ r. ⌜ Inverted (unitsOf field) (now (column .entry)) (now (dst .entry)) (now (dst .exit))
+        × (r ≡ chunkedCounts (words / unitsOf field .layout .width) (size (unitsOf field) (now (column .entry)))) ⌝ }
 {
+    let mut multiplications: u64 = 0;
+    let mut inversions: u64 = 0;
     let mut from: usize = 0;
     while from < column.len() {
         let to = part_end(from, words, column.len());
-        invert(field, &column[from..to], &mut dst[from..to]);
+        let part = invert(field, &column[from..to], &mut dst[from..to]);
+        multiplications += part.multiplications;
+        inversions += part.inversions;
         from = to;
+    }
+    Counts {
+        multiplications: multiplications,
+        inversions: inversions,
     }
 }
 
@@ -180,37 +196,35 @@ fn part_words(words: usize, chunk: usize, column: usize) -> usize
     chunk * words
 }
 
-// Element k of the destination becomes the inverse of element k of the column.
-pub fn batch_inverse_in_place(field: Field, column: &[u32], dst: &mut [u32]) -> WriteAnswer
+// Element k of the destination becomes the inverse of element k of the column, by one pass.
+pub fn batch_inverse_in_place(field: Field, column: &[u32], dst: &mut [u32]) -> BatchAnswer
     ensures { λ r. ⌜ (r ≡ inPlaceAnswer (columnOf field) (now (column .entry)) (length (now (dst .entry))))
         × (now (dst .exit) ≡ batchExit (columnOf field) (inPlaceAnswer (columnOf field) (now (column .entry)) (length (now (dst .entry))))
         (now (column .entry)) (now (dst .entry))) ⌝ }
 {
-    let answer = check(field, 1, column, dst.len());
-    let WriteAnswer::Written = answer else {
-        return answer;
-    };
-    invert_parts(field, column, dst, column.len());
-    WriteAnswer::Written
+    let checks = check(field, 1, column, dst.len());
+    if let Check::Refused(why) = checks {
+        return BatchAnswer::Refused(why);
+    }
+    BatchAnswer::Value(invert_parts(field, column, dst, column.len()))
 }
 
-// Element k of the destination becomes the inverse of element k of the column, chunk by chunk of so many elements.
+// Element k of the destination becomes the inverse of element k of the column, by one pass over each chunk of so many elements.
 pub fn batch_inverse_chunked(
     field: Field,
     column: &[u32],
     dst: &mut [u32],
     chunk: usize,
-) -> WriteAnswer
+) -> BatchAnswer
     ensures { λ r. ⌜ (r ≡ chunkedAnswer (columnOf field) chunk (now (column .entry)) (length (now (dst .entry))))
         × (now (dst .exit) ≡ batchExit (columnOf field)
         (chunkedAnswer (columnOf field) chunk (now (column .entry)) (length (now (dst .entry))))
         (now (column .entry)) (now (dst .entry))) ⌝ }
 {
-    let answer = check(field, chunk, column, dst.len());
-    let WriteAnswer::Written = answer else {
-        return answer;
-    };
+    let checks = check(field, chunk, column, dst.len());
+    if let Check::Refused(why) = checks {
+        return BatchAnswer::Refused(why);
+    }
     let words = part_words(width(field), chunk, column.len());
-    invert_parts(field, column, dst, words);
-    WriteAnswer::Written
+    BatchAnswer::Value(invert_parts(field, column, dst, words))
 }

@@ -1,12 +1,14 @@
 // Montgomery's trick on columns of M31, one inversion for a whole column (the passes of stwo's fields/mod.rs). The
 // columns are known to hold elements that can be inverted: these are no public calls.
 ghost use mathlib.Core.Path.{_≡_};
-ghost use Prim.Native.Nat.{_+_, _≤_};
+ghost use Prim.Native.Nat.{_+_, _*_, _≤_};
 ghost use lib.ListN.{length};
-ghost use Rattle.batch.specs.Passes.{laneUnits, m31Units};
+ghost use Rattle.batch.specs.Counts.{plainPass, fourLanePass, passCounts};
+ghost use Rattle.batch.specs.Passes.{size, laneUnits, m31Units};
 ghost use Rattle.batch.specs.PassContracts.{Factors, Inverting, Inverted, BeforeProducts};
-ghost use Rattle.batch.specs.PassContracts.{AfterProducts, BeforeInverses, AfterInverses};
+ghost use Rattle.batch.specs.PassContracts.{AfterProducts, BeforeInverses, AfterInverses, LanesInverted};
 ghost use Rattle.batch.specs.Lanes.{m31Lanes};
+use crate::counts::Counts;
 use fields::m31::inner::mul;
 use fields::m31::inner::pow2147483645;
 
@@ -15,6 +17,9 @@ const WIDTH: usize = 1;
 
 // words of four
 const LANES_WIDTH: usize = 4;
+
+// multiplications in a product of lanes
+const LANES: u64 = 4;
 
 // The element at a word.
 pub fn load(column: &[u32], from: usize) -> u32
@@ -31,51 +36,78 @@ fn store(dst: &mut [u32], to: usize, a: u32)
     dst[to] = a;
 }
 
+// The product of a column, and the multiplications made for it.
+pub struct Product {
+    pub whole: u32,
+    pub multiplications: u64,
+}
+
 // Element k of the destination becomes the product of the elements 0 to k of the column; the whole product.
-fn products(column: &[u32], dst: &mut [u32]) -> u32
+fn products(column: &[u32], dst: &mut [u32]) -> Product
     requires { ⌜ BeforeProducts m31Units (now column) (now dst) ⌝ }
-    ensures { λ r. ⌜ AfterProducts m31Units (now (column .entry)) (now (dst .exit)) r ⌝ }
+    ensures { λ r. ⌜ AfterProducts m31Units 0 (now (column .entry)) (now (dst .exit)) (r .whole) (r .multiplications) ⌝ }
 {
     let n = column.len() / WIDTH;
+    let mut multiplications: u64 = 0;
     let mut whole = load(column, 0);
     store(dst, 0, whole);
     let mut k: usize = 1;
     while k < n {
         let a = load(column, k * WIDTH);
         whole = mul(whole, a);
+        multiplications += 1;
         store(dst, k * WIDTH, whole);
         k += 1;
     }
-    whole
+    Product {
+        whole: whole,
+        multiplications: multiplications,
+    }
 }
 
-// From the products, and the inverse of the whole product, to the inverses.
-fn inverses(column: &[u32], dst: &mut [u32], inverse: u32)
+// From the products, and the inverse of the whole product, to the inverses; the multiplications made.
+fn inverses(column: &[u32], dst: &mut [u32], inverse: u32) -> u64
     requires { ⌜ BeforeInverses m31Units (now column) (now dst) inverse ⌝ }
-    ensures { λ _. ⌜ AfterInverses m31Units (now (column .entry)) (now (dst .exit)) ⌝ }
+    ensures { λ r. ⌜ AfterInverses m31Units (now (column .entry)) (now (dst .exit)) r ⌝ }
 {
+    let mut multiplications: u64 = 0;
     let mut rest = inverse;
     let mut k = column.len() / WIDTH - 1;
     while 0 < k {
         let a = load(column, k * WIDTH);
         let before = load(dst, (k - 1) * WIDTH);
         store(dst, k * WIDTH, mul(before, rest));
+        multiplications += 1;
         rest = mul(rest, a);
+        multiplications += 1;
         k -= 1;
     }
     store(dst, 0, rest);
+    multiplications
 }
 
 // one element after the other
-fn classic(column: &[u32], dst: &mut [u32])
+fn classic(column: &[u32], dst: &mut [u32]) -> Counts
     requires { ⌜ Inverting m31Units (now column) (now dst) ⌝ }
-    ensures { λ _. ⌜ Inverted m31Units (now (column .entry)) (now (dst .entry)) (now (dst .exit)) ⌝ }
+    ensures { λ r. ⌜ Inverted m31Units (now (column .entry)) (now (dst .entry)) (now (dst .exit))
+        × (r ≡ plainPass (size m31Units (now (column .entry)))) ⌝ }
 {
     if column.len() == 0 {
-        return;
+        return Counts {
+            multiplications: 0,
+            inversions: 0,
+        };
     }
-    let whole = products(column, dst);
-    inverses(column, dst, pow2147483645(whole));
+    let mut inversions: u64 = 0;
+    let up = products(column, dst);
+    let rest = pow2147483645(up.whole);
+    inversions += 1;
+    let down = inverses(column, dst, rest);
+    let multiplications = up.multiplications + down;
+    Counts {
+        multiplications: multiplications,
+        inversions: inversions,
+    }
 }
 
 // Four elements side by side, which don't wait for one another.
@@ -112,80 +144,129 @@ fn lanes_mul(a: Lanes, b: Lanes) -> Lanes
     Lanes(mul(a.0, b.0), mul(a.1, b.1), mul(a.2, b.2), mul(a.3, b.3))
 }
 
-// The inverses of the four, by one inversion.
-fn lanes_inverse(a: Lanes) -> Lanes
-    requires { ⌜ laneUnits m31Units .Unit (m31Lanes a) ⌝ }
-    ensures { λ r. ⌜ m31Lanes r ≡ laneUnits m31Units .inverse (m31Lanes a) ⌝ }
-{
-    let two = mul(a.0, a.1);
-    let three = mul(two, a.2);
-    let rest = pow2147483645(mul(three, a.3));
-    let r3 = mul(three, rest);
-    let rest = mul(rest, a.3);
-    let r2 = mul(two, rest);
-    let rest = mul(rest, a.2);
-    let r1 = mul(a.0, rest);
-    let r0 = mul(rest, a.1);
-    Lanes(r0, r1, r2, r3)
+// Four inverses, and what was made for them.
+pub struct LanesInverse {
+    pub lanes: Lanes,
+    pub multiplications: u64,
+    pub inversions: u64,
 }
 
-fn lanes_products(column: &[u32], dst: &mut [u32]) -> Lanes
+// The inverses of the four, by one inversion.
+fn lanes_inverse(a: Lanes) -> LanesInverse
+    requires { ⌜ laneUnits m31Units .Unit (m31Lanes a) ⌝ }
+    ensures { λ r. ⌜ LanesInverted m31Units (m31Lanes a) (m31Lanes (r .lanes)) (r .multiplications) (r .inversions) ⌝ }
+{
+    let mut multiplications: u64 = 0;
+    let mut inversions: u64 = 0;
+    let two = mul(a.0, a.1);
+    multiplications += 1;
+    let three = mul(two, a.2);
+    multiplications += 1;
+    let whole = mul(three, a.3);
+    multiplications += 1;
+    let rest = pow2147483645(whole);
+    inversions += 1;
+    let r3 = mul(three, rest);
+    multiplications += 1;
+    let rest = mul(rest, a.3);
+    multiplications += 1;
+    let r2 = mul(two, rest);
+    multiplications += 1;
+    let rest = mul(rest, a.2);
+    multiplications += 1;
+    let r1 = mul(a.0, rest);
+    multiplications += 1;
+    let r0 = mul(rest, a.1);
+    multiplications += 1;
+    LanesInverse {
+        lanes: Lanes(r0, r1, r2, r3),
+        multiplications: multiplications,
+        inversions: inversions,
+    }
+}
+
+// The product of each lane, and the multiplications made for them.
+pub struct LanesProduct {
+    pub whole: Lanes,
+    pub multiplications: u64,
+}
+
+fn lanes_products(column: &[u32], dst: &mut [u32]) -> LanesProduct
     requires { ⌜ BeforeProducts (laneUnits m31Units) (now column) (now dst) ⌝ }
-    ensures { λ r. ⌜ AfterProducts (laneUnits m31Units) (now (column .entry)) (now (dst .exit)) (m31Lanes r) ⌝ }
+    ensures { λ r. ⌜ AfterProducts (laneUnits m31Units) 4 (now (column .entry)) (now (dst .exit)) (m31Lanes (r .whole))
+        (r .multiplications) ⌝ }
 {
     let n = column.len() / LANES_WIDTH;
     let ones = Lanes(1, 1, 1, 1);
+    let mut multiplications: u64 = 0;
     let mut whole = lanes_mul(ones, lanes_load(column, 0));
+    multiplications += LANES;
     lanes_store(dst, 0, whole);
     let mut k: usize = 1;
     while k < n {
         let a = lanes_load(column, k * LANES_WIDTH);
         whole = lanes_mul(whole, a);
+        multiplications += LANES;
         lanes_store(dst, k * LANES_WIDTH, whole);
         k += 1;
     }
-    whole
+    LanesProduct {
+        whole: whole,
+        multiplications: multiplications,
+    }
 }
 
-fn lanes_inverses(column: &[u32], dst: &mut [u32], inverse: Lanes)
+fn lanes_inverses(column: &[u32], dst: &mut [u32], inverse: Lanes) -> u64
     requires { ⌜ BeforeInverses (laneUnits m31Units) (now column) (now dst) (m31Lanes inverse) ⌝ }
-    ensures { λ _. ⌜ AfterInverses (laneUnits m31Units) (now (column .entry)) (now (dst .exit)) ⌝ }
+    ensures { λ r. ⌜ AfterInverses (laneUnits m31Units) (now (column .entry)) (now (dst .exit)) r ⌝ }
 {
+    let mut multiplications: u64 = 0;
     let mut rest = inverse;
     let mut k = column.len() / LANES_WIDTH - 1;
     while 0 < k {
         let a = lanes_load(column, k * LANES_WIDTH);
         let before = lanes_load(dst, (k - 1) * LANES_WIDTH);
         lanes_store(dst, k * LANES_WIDTH, lanes_mul(before, rest));
+        multiplications += LANES;
         rest = lanes_mul(rest, a);
+        multiplications += LANES;
         k -= 1;
     }
     lanes_store(dst, 0, rest);
+    multiplications
 }
 
 // four at a time
-fn four_lanes(column: &[u32], dst: &mut [u32])
+fn four_lanes(column: &[u32], dst: &mut [u32]) -> Counts
     requires { ⌜ BeforeProducts (laneUnits m31Units) (now column) (now dst) ⌝ }
-    ensures { λ _. ⌜ Inverted (laneUnits m31Units) (now (column .entry)) (now (dst .entry)) (now (dst .exit)) ⌝ }
+    ensures { λ r. ⌜ Inverted (laneUnits m31Units) (now (column .entry)) (now (dst .entry)) (now (dst .exit))
+        × (r ≡ fourLanePass (size (laneUnits m31Units) (now (column .entry)) * 4)) ⌝ }
 {
-    let whole = lanes_products(column, dst);
-    lanes_inverses(column, dst, lanes_inverse(whole));
+    let up = lanes_products(column, dst);
+    let whole = up.whole;
+    let four = lanes_inverse(whole);
+    let rest = four.lanes;
+    let down = lanes_inverses(column, dst, rest);
+    let multiplications = up.multiplications + four.multiplications + down;
+    Counts {
+        multiplications: multiplications,
+        inversions: four.inversions,
+    }
 }
 
 // Each element of the destination becomes the inverse of the column's: four at a time where the count is above 4 and a
 // multiple of 4, else one by one.
-pub fn invert(column: &[u32], dst: &mut [u32])
+pub fn invert(column: &[u32], dst: &mut [u32]) -> Counts
     requires { ⌜ Inverting m31Units (now column) (now dst) ⌝ }
-    ensures { λ _. ⌜ Inverted m31Units (now (column .entry)) (now (dst .entry)) (now (dst .exit)) ⌝ }
+    ensures { λ r. ⌜ Inverted m31Units (now (column .entry)) (now (dst .entry)) (now (dst .exit))
+        × (r ≡ passCounts (size m31Units (now (column .entry)))) ⌝ }
 {
     let n = column.len() / WIDTH;
     if n <= 4 {
-        classic(column, dst);
-        return;
+        return classic(column, dst);
     }
     if n % 4 != 0 {
-        classic(column, dst);
-        return;
+        return classic(column, dst);
     }
-    four_lanes(column, dst);
+    four_lanes(column, dst)
 }

@@ -1,5 +1,6 @@
 // The C interface: numbers and slices in, one struct of numbers out. include/taripomune.h declares it for C.
 pub mod batch_inverse;
+pub mod batch_reply;
 pub mod canonic_coset;
 pub mod circle_domain;
 pub mod circle_transform;

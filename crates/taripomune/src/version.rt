@@ -11,5 +11,5 @@ use fields::answer::U32Answer;
 pub extern "C" fn tari_version() -> U32Reply
     ensures { λ r. ⌜ r ≡ u32Reply (Value version) ⌝ }
 {
-    u32_reply(U32Answer::Value(3))
+    u32_reply(U32Answer::Value(4))
 }

@@ -117,6 +117,14 @@ impl Header {
     }
 }
 
+impl Reply {
+    /// The values that are compared with the Rust's and recorded: all but the counts of a batch (decision 125).
+    pub fn compared(&self) -> Vec<&Variable> {
+        let is_count = |name: &str| ["multiplications", "inversions"].contains(&name);
+        self.fields[2..].iter().filter(|field| !is_count(&field.name)).collect()
+    }
+}
+
 impl Prototype {
     /// Whether it takes a slice.
     pub fn has_slices(&self) -> bool {

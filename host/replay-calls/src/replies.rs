@@ -38,7 +38,7 @@ fn numbers(reply: &Reply) -> String {
         "u64" => format!("    reply = with_number(reply, r.{name});\n"),
         _ => format!("    reply = with_word(reply, r.{name});\n"),
     };
-    let values: String = reply.fields[2..].iter().map(|field| with((&field.name, field.rust_type))).collect();
+    let values: String = reply.compared().iter().map(|field| with((&field.name, field.rust_type))).collect();
     let body = match values.as_str() {
         "" => "    reply_of(r.number, r.position)\n".to_string(),
         _ => format!("    let mut reply = reply_of(r.number, r.position);\n{values}    reply\n"),

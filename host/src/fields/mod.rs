@@ -6,7 +6,7 @@ mod m31;
 mod operators;
 mod qm31;
 
-pub use batch::{batch_inverse, batch_inverse_chunked, batch_inverse_in_place};
+pub use batch::{BatchCounts, batch_inverse, batch_inverse_chunked, batch_inverse_in_place};
 pub use cm31::{CM31, P2};
 pub use m31::{BaseField, M31, MODULUS_BITS, N_BYTES_FELT, P, Word};
 pub use qm31::{P4, QM31, R, SECURE_EXTENSION_DEGREE, SecureField};

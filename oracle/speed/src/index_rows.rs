@@ -121,7 +121,7 @@ fn each<I, T: Copy + PartialEq>(
             }
         },
     );
-    Row { what, rust, library, limit, equal: rust_answers == answers }
+    Row { what, rust, library, limit, equal: rust_answers == answers, work: None }
 }
 
 fn index(k: u64) -> CirclePointIndex {

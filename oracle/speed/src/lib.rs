@@ -10,6 +10,6 @@ mod transform;
 mod transform_rows;
 mod twiddles;
 
-pub use measure::{heading, measured, Row};
+pub use measure::{heading, measured, Row, Work};
 pub use rows::{RECORD_ROWS, ROWS};
 pub use transform_rows::{avx2_rows, PARTLY_ROWS, TRANSFORM_ROWS};

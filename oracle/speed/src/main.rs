@@ -6,7 +6,12 @@ use std::process::ExitCode;
 fn main() -> ExitCode {
     let rows = measured(&[ROWS, RECORD_ROWS, TRANSFORM_ROWS, PARTLY_ROWS, avx2_rows()].concat());
     println!("{}", heading());
-    rows.iter().for_each(|row| println!("{}", row.line()));
+    for row in &rows {
+        println!("{}", row.line());
+        if let Some(work) = row.work {
+            println!("{}", work.line());
+        }
+    }
     if rows.iter().all(Row::passes) {
         ExitCode::SUCCESS
     } else {

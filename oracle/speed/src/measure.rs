@@ -21,6 +21,21 @@ pub struct Row {
     pub limit: f64,
     /// Whether both sides gave the same answer.
     pub equal: bool,
+    /// What the library says it made, where it does.
+    pub work: Option<Work>,
+}
+
+/// The multiplications and inversions of a batch inversion for each element.
+#[derive(Clone, Copy)]
+pub struct Work {
+    pub multiplications: f64,
+    pub inversions: f64,
+}
+
+impl Work {
+    pub fn line(&self) -> String {
+        format!("    {:.6} multiplications and {:.6} inversions an element", self.multiplications, self.inversions)
+    }
 }
 
 impl Row {

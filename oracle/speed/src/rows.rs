@@ -1,11 +1,11 @@
 //! What is measured.
 
 use crate::index_rows;
-use crate::measure::{best, Row};
+use crate::measure::{best, Row, Work};
 use common::element::{elements, point, words_of, Element};
 use common::library::{
-    tari_bit_reverse, tari_bit_reverse_coset_to_circle_domain_order, tari_m31_batch_inverse_in_place, tari_point_add,
-    tari_point_repeated_double, tari_point_reply, tari_qm31_batch_inverse_in_place, tari_qm31_mul,
+    tari_batch_reply, tari_bit_reverse, tari_bit_reverse_coset_to_circle_domain_order, tari_m31_batch_inverse_in_place,
+    tari_point_add, tari_point_repeated_double, tari_point_reply, tari_qm31_batch_inverse_in_place, tari_qm31_mul,
     tari_secure_point_add, tari_write_reply,
 };
 use common::random::Random;
@@ -44,7 +44,7 @@ pub static RECORD_ROWS: &[fn() -> Row] = &[
 /// The library may take a tenth longer than the Rust.
 const LIMIT: f64 = 1.10;
 
-type BatchInverse = unsafe extern "C" fn(*const u32, u64, *mut u32, u64) -> tari_write_reply;
+type BatchInverse = unsafe extern "C" fn(*const u32, u64, *mut u32, u64) -> tari_batch_reply;
 
 /// Both write into a destination that is there.
 fn batch_inverse<T: Element>(what: &'static str, n: usize, call: BatchInverse) -> Row {
@@ -53,14 +53,15 @@ fn batch_inverse<T: Element>(what: &'static str, n: usize, call: BatchInverse) -
     let mut rust_dst = vec![T::default(); n];
     let mut dst = vec![0; words.len()];
     let length = words.len() as u64;
+    let mut reply = tari_batch_reply { number: 0, position: 0, multiplications: 0, inversions: 0 };
     let (rust, library) = best(
         n,
         || batch_inverse_in_place(black_box(&column), black_box(&mut rust_dst)),
-        || unsafe {
-            call(words.as_ptr(), length, dst.as_mut_ptr(), length);
-        },
+        || reply = unsafe { call(words.as_ptr(), length, dst.as_mut_ptr(), length) },
     );
-    Row { what, rust, library, limit: LIMIT, equal: words_of(&rust_dst) == dst }
+    let an_element = |count: u64| count as f64 / n as f64;
+    let work = Work { multiplications: an_element(reply.multiplications), inversions: an_element(reply.inversions) };
+    Row { what, rust, library, limit: LIMIT, equal: words_of(&rust_dst) == dst, work: Some(work) }
 }
 
 /// x, xy, xyy and so on: each step waits for the one before it. `of` makes x and y, of so many words each. The
@@ -88,7 +89,7 @@ fn chain<T: Copy + PartialEq>(
             last = black_box((0..n).fold(x, |x, _| step(x, y)));
         },
     );
-    Row { what, rust, library, limit: LIMIT, equal: rust_last == last }
+    Row { what, rust, library, limit: LIMIT, equal: rust_last == last, work: None }
 }
 
 fn qm31_mul(x: QM31, y: QM31) -> QM31 {
@@ -127,7 +128,7 @@ fn doublings(what: &'static str, n: u32) -> Row {
             last = CirclePoint { x: M31(reply.x), y: M31(reply.y) };
         },
     );
-    Row { what, rust, library, limit: LIMIT, equal: rust_last == last }
+    Row { what, rust, library, limit: LIMIT, equal: rust_last == last, work: None }
 }
 
 fn secure_point_add(a: CirclePoint<QM31>, b: CirclePoint<QM31>) -> CirclePoint<QM31> {
@@ -159,7 +160,7 @@ fn permutation(what: &'static str, n: usize, rust_permute: fn(&mut [u32]), call:
         permute(&mut v);
         rust_v == v
     });
-    Row { what, rust, library, limit: LIMIT, equal }
+    Row { what, rust, library, limit: LIMIT, equal, work: None }
 }
 
 /// Words from 1 to P - 1.

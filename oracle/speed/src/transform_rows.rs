@@ -115,5 +115,5 @@ fn transform(what: &'static str, log_size: u32, limit: f64, rust_transform: Tran
         },
     );
     let (_, _, accepted) = shared.into_inner();
-    Row { what, rust, library, limit, equal: equal && accepted }
+    Row { what, rust, library, limit, equal: equal && accepted, work: None }
 }

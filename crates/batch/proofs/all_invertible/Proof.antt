@@ -6,7 +6,7 @@ use borrow.Author.Needs.{needs}
 use borrow.Author.Tests.{ltb-true}
 use lib.Bits.{bitOr}
 use Rattle.fields.specs.Seen.{Seen, seen-none, seen-next}
-use Rattle.batch.proofs.Invertible.{around, less-one, seen-written}
+use Rattle.batch.proofs.Invertible.{around, less-one, seen-passed}
 use Rattle.batch.proofs.all_invertible.Statement.{statement}
 use Rattle.batch.proofs.all_invertible.Tie as tie
 
@@ -52,7 +52,8 @@ returns c =
     let at = c .before .loop in
     let column = c .before .before .before .args .column .now in
     let whole : at .i ≡ length column = omega (arith, at .inv .0, c .loop-test .left) in
-    λ e. seen-written column (at .seen) (λ j. c .before .before .shared-slice-known .given j .fits) (subst (λ (i : ℕ). Seen around column i (at .seen)) whole (at .inv .1)) (ltb-true (at .seen) 2147483648 e)
+    λ e. seen-passed column (at .seen) (λ j. c .before .before .shared-slice-known .given j .fits)
+    (subst (λ (i : ℕ). Seen around column i (at .seen)) whole (at .inv .1)) (ltb-true (at .seen) 2147483648 e)
 
 pub all-invertible-spec : {M : Type 1} → statement M
 all-invertible-spec = tie.close (tie.spec Inv-loop μ-loop loop-holds mul-word shared-slice-read-word wrapping-sub-u32-requires wrapping-add-u32-requires add-i loop-less loop-again returns)

@@ -1,26 +1,35 @@
-use Prim.Native.Nat.{ℕ, _*_, _/_}
-use mathlib.Core.Path.{sym, _∙_, ap}
-use mathlib.Core.Bool.{cond}
+use mathlib.Core.Path.{_∙_}
 use native.Mathlib.Omega.{arith}
-use lib.Dec.{leb}
 use lib.ListN.{length}
 use borrow.Author.Needs.{needs}
-use Rattle.batch.proofs.Batches.{same-exit, refused-exit, width-positive}
-use Rattle.batch.proofs.Parts.{chunk-parts}
+use Rattle.fields.specs.CheckLaws.{passed-hold}
+use Rattle.batch.specs.Counts.{chunkedCounts}
+use Rattle.batch.specs.Batch.{columnOf, count, chunkedChecks, chunkedAnswer}
+use Rattle.batch.proofs.Batches.{refused-batch, accepted-batch, width-positive}
+use Rattle.batch.proofs.Parts.{part-of-chunk, chunk-parts, chunk-counts}
 use Rattle.batch.proofs.batch_inverse_chunked.Statement.{statement}
 use Rattle.batch.proofs.batch_inverse_chunked.Tie as tie
 
 check-requires : tie.Need-check-requires
 check-requires c κs = search needs
 
-enum-told : tie.Need-enum-told
-enum-told c = search needs
-
-enum-told-2 : tie.Need-enum-told-2
-enum-told-2 c = search needs
+enum-known-checks : tie.Need-enum-known-checks
+enum-known-checks c = search needs
 
 returns : tie.Need-returns
-returns c = (c .before .before .check .ensures, refused-exit _ _ (sym (c .enum-told2 .given .1) ∙ c .before .before .check .ensures))
+unfolding chunkedAnswer
+returns c =
+    let args = c .before .before .before .before .before .before .args in
+    let column = args .column .now in
+    let dst = args .dst .now in
+    let F = columnOf (args .field) in
+    let batch = refused-batch (args .field) (chunkedChecks F (args .chunk) column (length dst))
+    (chunkedCounts (args .chunk) (count F column)) column dst
+    (c .before .before .before .check .ensures) (c .before .checks .given .1) in
+    (batch .answer, batch .destination)
+
+enum-told : tie.Need-enum-told
+enum-told c = search needs
 
 width-requires : tie.Need-width-requires
 width-requires c κs = search needs
@@ -32,27 +41,38 @@ part-words-requires c κs =
 
 invert-parts-requires : tie.Need-invert-parts-requires
 invert-parts-requires c κs =
-    let entry = c .before .before .before .before .before .before .before .before in
-    let field = entry .args .field in
-    let chunk = entry .args .chunk in
-    let column = entry .args .column .now in
-    chunk-parts field chunk
-    (sym (c .before .before .before .before .before .check .ensures) ∙ c .before .before .before .enum-told .given .1)
-    (c .before .part-words .ensures
-    ∙ ap (λ (w : ℕ). cond (leb (length column / w) chunk) (length column) (chunk * w)) (c .before .before .width .ensures))
+    let told = c .before .before .before in
+    let checks = told .before .before in
+    let args = checks .before .before .before .args in
+    let chunk = args .chunk in
+    let column = args .column .now in
+    let all = chunkedChecks (columnOf (args .field)) chunk column (length (args .dst .now)) in
+    chunk-parts (args .field) chunk (passed-hold all _ (checks .check .ensures) (told .enum-told .given .1))
+    (part-of-chunk (args .field) column chunk (c .before .before .width .ensures) (c .before .part-words .ensures))
 
 same-length : tie.Need-same-length
 same-length c = search needs
 
 returns-2 : tie.Need-returns-2
+unfolding chunkedAnswer
 returns-2 c =
-    let entry = c .before .before .before .before .before .before .before .before .before .before .before in
-    let told = c .before .before .before .before .before .before in
-    let yes = sym (told .enum-told .given .1) ∙ told .before .before .check .ensures in
-    (yes, same-exit (entry .args .field) yes (c .before .before .invert-parts .ensures))
+    let done = c .before .before in
+    let part = done .before .before in
+    let told = part .before .before in
+    let checks = told .before .before in
+    let args = checks .before .before .before .args in
+    let chunk = args .chunk in
+    let column = args .column .now in
+    let dst = args .dst .now in
+    let F = columnOf (args .field) in
+    let words = part-of-chunk (args .field) column chunk (part .before .width .ensures) (part .part-words .ensures) in
+    let made = done .invert-parts .ensures .1 ∙ chunk-counts (args .field) column chunk words in
+    let batch = accepted-batch (args .field) (chunkedChecks F chunk column (length dst)) (chunkedCounts chunk (count F column)) column dst
+    (checks .check .ensures) (told .enum-told .given .1) made (done .invert-parts .ensures .0) in
+    (batch .answer, batch .destination)
 
 pub batch-inverse-chunked-spec : {M : Type 1} → statement M
 batch-inverse-chunked-spec =
     tie.close
-    (tie.spec check-requires enum-told enum-told-2 returns width-requires part-words-requires invert-parts-requires same-length
+    (tie.spec check-requires enum-known-checks returns enum-told width-requires part-words-requires invert-parts-requires same-length
     returns-2)

@@ -1,40 +1,60 @@
-use mathlib.Core.Path.{sym, _∙_}
+use mathlib.Core.Path.{_∙_}
+use lib.ListN.{length}
 use borrow.Author.Needs.{needs}
-use Rattle.batch.proofs.Batches.{chunked-by-one, same-exit, refused-exit}
-use Rattle.batch.proofs.Parts.{one-part}
+use Rattle.fields.specs.CheckLaws.{passed-hold}
+use Rattle.batch.specs.Counts.{passCounts}
+use Rattle.batch.specs.Batch.{columnOf, count, inPlaceChecks, chunkedChecks, inPlaceAnswer}
+use Rattle.batch.proofs.Batches.{refused-batch, accepted-batch}
+use Rattle.batch.proofs.Parts.{one-part, one-part-counts}
 use Rattle.batch.proofs.batch_inverse_in_place.Statement.{statement}
 use Rattle.batch.proofs.batch_inverse_in_place.Tie as tie
 
 check-requires : tie.Need-check-requires
 check-requires c κs = search needs
 
+enum-known-checks : tie.Need-enum-known-checks
+enum-known-checks c = search needs
+
+returns : tie.Need-returns
+unfolding inPlaceAnswer
+returns c =
+    let args = c .before .before .before .before .before .before .args in
+    let column = args .column .now in
+    let dst = args .dst .now in
+    let F = columnOf (args .field) in
+    let batch = refused-batch (args .field) (inPlaceChecks F column (length dst)) (passCounts (count F column)) column dst
+    (c .before .before .before .check .ensures) (c .before .checks .given .1) in
+    (batch .answer, batch .destination)
+
 enum-told : tie.Need-enum-told
 enum-told c = search needs
 
-enum-told-2 : tie.Need-enum-told-2
-enum-told-2 c = search needs
-
-returns : tie.Need-returns
-returns c =
-    let answered = c .before .before .check .ensures ∙ chunked-by-one _ _ _ in
-    (answered, refused-exit _ _ (sym (c .enum-told2 .given .1) ∙ answered))
-
 invert-parts-requires : tie.Need-invert-parts-requires
 invert-parts-requires c κs =
-    let entry = c .before .before .before .before .before .before in
-    one-part (entry .args .field) 1 (sym (c .before .before .before .check .ensures) ∙ c .before .enum-told .given .1)
+    let checks = c .before .before .before in
+    let args = checks .before .before .before .args in
+    let all = chunkedChecks (columnOf (args .field)) 1 (args .column .now) (length (args .dst .now)) in
+    one-part (args .field) 1 (passed-hold all _ (checks .check .ensures) (c .before .enum-told .given .1))
 
 same-length : tie.Need-same-length
 same-length c = search needs
 
 returns-2 : tie.Need-returns-2
+unfolding inPlaceAnswer
 returns-2 c =
-    let entry = c .before .before .before .before .before .before .before .before .before in
-    let told = c .before .before .before .before in
-    let yes = sym (told .enum-told .given .1) ∙ told .before .before .check .ensures ∙ chunked-by-one _ _ _ in
-    (yes, same-exit (entry .args .field) yes (c .before .before .invert-parts .ensures))
+    let done = c .before .before in
+    let told = done .before .before in
+    let checks = told .before .before in
+    let args = checks .before .before .before .args in
+    let column = args .column .now in
+    let dst = args .dst .now in
+    let F = columnOf (args .field) in
+    let made = done .invert-parts .ensures .1 ∙ one-part-counts (args .field) column in
+    let batch = accepted-batch (args .field) (inPlaceChecks F column (length dst)) (passCounts (count F column)) column dst
+    (checks .check .ensures) (told .enum-told .given .1) made (done .invert-parts .ensures .0) in
+    (batch .answer, batch .destination)
 
 pub batch-inverse-in-place-spec : {M : Type 1} → statement M
 batch-inverse-in-place-spec =
     tie.close
-    (tie.spec check-requires enum-told enum-told-2 returns invert-parts-requires same-length returns-2)
+    (tie.spec check-requires enum-known-checks returns enum-told invert-parts-requires same-length returns-2)

@@ -5,7 +5,6 @@ use native.Mathlib.Omega.{arith}
 use lib.Dec.{leb, eqb}
 use lib.ListN.{length}
 use borrow.Author.Needs.{needs}
-use Rattle.batch.specs.Batch.{chunkedAnswer, wordsAnswer}
 use Rattle.fields.specs.AnswerLaws.{answers}
 use Rattle.batch.proofs.Batches.{width-positive}
 use Rattle.batch.proofs.check.Statement.{statement}
@@ -18,13 +17,11 @@ lengths-fit-requires : tie.Need-lengths-fit-requires
 lengths-fit-requires c κs = omega (arith, c .width .ensures, width-positive (c .before .before .args .field))
 
 returns : tie.Need-returns
-unfolding chunkedAnswer
 returns c =
     let e = c .before .lengths-fit .ensures ∙ ap (λ (w : ℕ). eqb (length (c .before .before .before .before .args .column .now) % w) 0 && eqb (c .before .before .before .before .args .dst % w) 0 && leb (length (c .before .before .before .before .args .column .now)) (c .before .before .before .before .args .dst)) (c .before .before .width .ensures) in
     search (answers, needs)
 
 returns-2 : tie.Need-returns-2
-unfolding chunkedAnswer
 returns-2 c =
     let e = c .before .before .lengths-fit .ensures ∙ ap (λ (w : ℕ). eqb (length (c .before .before .before .before .before .args .column .now) % w) 0 && eqb (c .before .before .before .before .before .args .dst % w) 0 && leb (length (c .before .before .before .before .before .args .column .now)) (c .before .before .before .before .before .args .dst)) (c .before .before .before .width .ensures) in
     search (answers, needs)
@@ -33,7 +30,6 @@ check-words-requires : tie.Need-check-words-requires
 check-words-requires c κs = search needs
 
 returns-3 : tie.Need-returns-3
-unfolding chunkedAnswer wordsAnswer
 returns-3 c =
     let e = c .before .before .before .lengths-fit .ensures ∙ ap (λ (w : ℕ). eqb (length (c .before .before .before .before .before .before .args .column .now) % w) 0 && eqb (c .before .before .before .before .before .before .args .dst % w) 0 && leb (length (c .before .before .before .before .before .before .args .column .now)) (c .before .before .before .before .before .before .args .dst)) (c .before .before .before .before .width .ensures) in
     search (answers, needs, c .before .if2 .left)

@@ -1,6 +1,7 @@
 use mathlib.Core.Path.{sym, _∙_, ap}
 use borrow.Author.Needs.{needs}
-use Rattle.batch.specs.Batch.{columnOf, wordsAnswer}
+use Rattle.fields.specs.Check.{outcome}
+use Rattle.batch.specs.Batch.{columnOf, invertible}
 use Rattle.batch.specs.declared.Field.{Field}
 use Rattle.batch.proofs.check_words.Statement.{statement}
 use Rattle.batch.proofs.check_words.Tie as tie
@@ -13,7 +14,11 @@ all-invertible-requires c κs = search needs
 
 returns : tie.Need-returns
 unfolding columnOf
-returns c = sym (c .before .all-invertible .ensures (c .if1 .taken)) ∙ ap (λ (f : Field). wordsAnswer (columnOf f) (c .before .before .before .before .before .args .column .now)) (sym (c .before .before .enum-told .given .1))
+returns c =
+    let told = c .before .before in
+    let column = told .before .before .before .args .column .now in
+    sym (c .before .all-invertible .ensures (c .if1 .taken))
+    ∙ ap (λ (f : Field). outcome (invertible (columnOf f) column)) (sym (told .enum-told .given .1))
 
 search-words-requires : tie.Need-search-words-requires
 search-words-requires c κs = search needs

@@ -3,7 +3,6 @@ use mathlib.Core.Path.{subst}
 use native.Mathlib.Omega.{arith}
 use lib.ListN.{length}
 use borrow.Author.Needs.{needs}
-use Rattle.batch.specs.Batch.{wordsAnswer}
 use Rattle.fields.specs.AnswerLaws.{answers}
 use Rattle.batch.proofs.Batches.{width-positive}
 use Rattle.batch.proofs.search_words.Statement.{statement}
@@ -13,7 +12,6 @@ first-bad-requires : tie.Need-first-bad-requires
 first-bad-requires c κs = search needs
 
 returns : tie.Need-returns
-unfolding wordsAnswer
 returns c = rw (← c .before .first-bad .ensures) (search (answers, needs))
 
 first-zero-requires : tie.Need-first-zero-requires
@@ -26,13 +24,11 @@ div-if2 : tie.Need-div-if2
 div-if2 c = omega (arith, c .width .ensures, width-positive (c .before .before .before .before .before .args .field))
 
 returns-2 : tie.Need-returns-2
-unfolding wordsAnswer
 returns-2 c =
     let less = subst (λ (w : ℕ). c .before .before .first-zero .result < length (c .before .before .before .before .before .before .args .column .now) / w) (c .before .width .ensures) (c .if2 .taken) in
     rw (← c .before .before .before .before .first-bad .ensures, ← c .before .before .first-zero .ensures) (search (answers, needs))
 
 returns-3 : tie.Need-returns-3
-unfolding wordsAnswer
 returns-3 c =
     let more = subst (λ (w : ℕ). length (c .before .before .before .before .before .before .args .column .now) / w ≤ c .before .before .first-zero .result) (c .before .width .ensures) (c .if2 .left) in
     rw (← c .before .before .before .before .first-bad .ensures, ← c .before .before .first-zero .ensures) (search (answers, needs))

@@ -2,6 +2,7 @@
 use crate::arguments::Arguments;
 use crate::arguments::Form;
 use crate::arguments::taken_by;
+use crate::calls::replies::of_batch;
 use crate::calls::replies::of_coset;
 use crate::calls::replies::of_write;
 use crate::reply::Reply;
@@ -34,12 +35,12 @@ pub fn arguments_of(name: &[u8], row: Row, form: Form) -> Arguments {
 
 pub fn answered(place: usize, n: [u64; MOST], first: &mut [u32], second: &mut [u32]) -> Reply {
     match place {
-        0 => of_write(batch_inverse::tari_m31_batch_inverse_in_place(first, second)),
-        1 => of_write(batch_inverse::tari_m31_batch_inverse_chunked(first, second, wide(n, 0))),
-        2 => of_write(batch_inverse::tari_cm31_batch_inverse_in_place(first, second)),
-        3 => of_write(batch_inverse::tari_cm31_batch_inverse_chunked(first, second, wide(n, 0))),
-        4 => of_write(batch_inverse::tari_qm31_batch_inverse_in_place(first, second)),
-        5 => of_write(batch_inverse::tari_qm31_batch_inverse_chunked(first, second, wide(n, 0))),
+        0 => of_batch(batch_inverse::tari_m31_batch_inverse_in_place(first, second)),
+        1 => of_batch(batch_inverse::tari_m31_batch_inverse_chunked(first, second, wide(n, 0))),
+        2 => of_batch(batch_inverse::tari_cm31_batch_inverse_in_place(first, second)),
+        3 => of_batch(batch_inverse::tari_cm31_batch_inverse_chunked(first, second, wide(n, 0))),
+        4 => of_batch(batch_inverse::tari_qm31_batch_inverse_in_place(first, second)),
+        5 => of_batch(batch_inverse::tari_qm31_batch_inverse_chunked(first, second, wide(n, 0))),
         6 => of_write(column_orders::tari_bit_reverse(first)),
         7 => of_write(column_orders::tari_bit_reverse_coset_to_circle_domain_order(first)),
         8 => of_write(column_orders::tari_coset_order_to_circle_domain_order(first, second)),

@@ -3,6 +3,7 @@ use crate::reply::Reply;
 use crate::reply::reply_of;
 use crate::reply::with_number;
 use crate::reply::with_word;
+use taripomune::batch_reply::BatchReply;
 use taripomune::coset_reply::CircleDomainIndexIteratorReply;
 use taripomune::coset_reply::CircleDomainStepReply;
 use taripomune::coset_reply::CosetIteratorReply;
@@ -86,6 +87,10 @@ pub fn of_u64(r: U64Reply) -> Reply {
 }
 
 pub fn of_write(r: WriteReply) -> Reply {
+    reply_of(r.number, r.position)
+}
+
+pub fn of_batch(r: BatchReply) -> Reply {
     reply_of(r.number, r.position)
 }
 

@@ -7,10 +7,11 @@ use Rattle.batch.proofs.cm31.lanes_inverses.Statement.{statement}
 use Rattle.batch.proofs.cm31.lanes_inverses.Tie as tie
 
 abbrev Inv-loop : tie.InvT-loop
-Inv-loop column dst₀ rest₀ k₀ dst rest k = Down (laneUnits cm31Units) column dst k (cm31Lanes rest)
+Inv-loop column dst₀ multiplications₀ rest₀ k₀ dst multiplications rest k =
+    Down (laneUnits cm31Units) column dst k (cm31Lanes rest) multiplications
 
 abbrev μ-loop : tie.MeasureT-loop
-μ-loop column dst₀ rest₀ k₀ dst rest k = k
+μ-loop column dst₀ multiplications₀ rest₀ k₀ dst multiplications rest k = k
 
 sub-k : tie.Need-sub-k Inv-loop μ-loop
 sub-k c = omega arith
@@ -53,6 +54,12 @@ lanes-mul-requires c κs =
 lanes-store-requires : tie.Need-lanes-store-requires Inv-loop μ-loop
 lanes-store-requires c κs = omega arith
 
+add-multiplications : tie.Need-add-multiplications Inv-loop μ-loop
+add-multiplications c =
+    let head = c .before .before .before .before .before .before .before .before .before in
+    let entry = head .before .before .before in
+    omega (arith, entry .good, head .loop .inv .low, head .loop .inv .multiplications)
+
 lanes-mul-requires-2 : tie.Need-lanes-mul-requires-2 Inv-loop μ-loop
 lanes-mul-requires-2 c κs =
     let head = c .before .before .before .before .before .before .before .before .before in
@@ -64,6 +71,12 @@ lanes-mul-requires-2 c κs =
           element-unit (laneUnits cm31Units) (entry .pre .elements) (at .k) (at .inv .low)
           (c .before .before .before .before .before .before .before .lanes-load .ensures);
     }
+
+add-multiplications-2 : tie.Need-add-multiplications-2 Inv-loop μ-loop
+add-multiplications-2 c =
+    let head = c .before .before .before .before .before .before .before .before .before .before in
+    let entry = head .before .before .before in
+    omega (arith, entry .good, head .loop .inv .low, head .loop .inv .multiplications)
 
 sub-k-2 : tie.Need-sub-k-2 Inv-loop μ-loop
 sub-k-2 c = omega (arith, c .before .before .before .before .before .before .before .before .before .loop-test .taken)
@@ -98,6 +111,6 @@ returns c =
 pub lanes-inverses-spec : {M : Type 1} → statement M
 lanes-inverses-spec =
     tie.close
-    (tie.spec Inv-loop μ-loop sub-k loop-holds mul-lanes-load lanes-load-requires sub-lanes-load mul-lanes-load-2 lanes-load-requires-2
-    mul-lanes-store lanes-mul-requires lanes-store-requires lanes-mul-requires-2 sub-k-2 loop-less loop-again lanes-store-requires-2
-    same-length returns)
+    (tie.spec Inv-loop μ-loop sub-k loop-holds mul-lanes-load lanes-load-requires sub-lanes-load mul-lanes-load-2
+    lanes-load-requires-2 mul-lanes-store lanes-mul-requires lanes-store-requires add-multiplications lanes-mul-requires-2
+    add-multiplications-2 sub-k-2 loop-less loop-again lanes-store-requires-2 same-length returns)

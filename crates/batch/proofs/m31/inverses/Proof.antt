@@ -6,10 +6,11 @@ use Rattle.batch.proofs.m31.inverses.Statement.{statement}
 use Rattle.batch.proofs.m31.inverses.Tie as tie
 
 abbrev Inv-loop : tie.InvT-loop
-Inv-loop column dst₀ inverse rest₀ k₀ dst rest k = Down m31Units column dst k rest
+Inv-loop column dst₀ inverse multiplications₀ rest₀ k₀ dst multiplications rest k =
+    Down m31Units column dst k rest multiplications
 
 abbrev μ-loop : tie.MeasureT-loop
-μ-loop column dst₀ inverse rest₀ k₀ dst rest k = k
+μ-loop column dst₀ inverse multiplications₀ rest₀ k₀ dst multiplications rest k = k
 
 sub-k : tie.Need-sub-k Inv-loop μ-loop
 sub-k c = omega arith
@@ -48,6 +49,12 @@ mul-requires c κs =
 store-requires : tie.Need-store-requires Inv-loop μ-loop
 store-requires c κs = omega arith
 
+add-multiplications : tie.Need-add-multiplications Inv-loop μ-loop
+add-multiplications c =
+    let head = c .before .before .before .before .before .before .before .before .before in
+    let entry = head .before .before .before in
+    omega (arith, entry .good, head .loop .inv .low, head .loop .inv .multiplications)
+
 mul-requires-2 : tie.Need-mul-requires-2 Inv-loop μ-loop
 mul-requires-2 c κs =
     let head = c .before .before .before .before .before .before .before .before .before in
@@ -57,6 +64,12 @@ mul-requires-2 c κs =
       element-unit m31Units (entry .pre .elements) (at .k) (at .inv .low)
           (c .before .before .before .before .before .before .before .load .ensures) .0,
     )
+
+add-multiplications-2 : tie.Need-add-multiplications-2 Inv-loop μ-loop
+add-multiplications-2 c =
+    let head = c .before .before .before .before .before .before .before .before .before .before in
+    let entry = head .before .before .before in
+    omega (arith, entry .good, head .loop .inv .low, head .loop .inv .multiplications)
 
 sub-k-2 : tie.Need-sub-k-2 Inv-loop μ-loop
 sub-k-2 c = omega arith
@@ -91,4 +104,5 @@ pub inverses-spec : {M : Type 1} → statement M
 inverses-spec =
     tie.close
     (tie.spec Inv-loop μ-loop sub-k loop-holds mul-load load-requires sub-load mul-load-2 load-requires-2 mul-store mul-requires
-    store-requires mul-requires-2 sub-k-2 loop-less loop-again store-requires-2 same-length returns)
+    store-requires add-multiplications mul-requires-2 add-multiplications-2 sub-k-2 loop-less loop-again store-requires-2
+    same-length returns)

@@ -7,10 +7,11 @@ use Rattle.batch.proofs.m31.products.Statement.{statement}
 use Rattle.batch.proofs.m31.products.Tie as tie
 
 abbrev Inv-loop : tie.InvT-loop
-Inv-loop column dst₀ n whole₀ k₀ dst whole k = Up m31Units column dst n k whole
+Inv-loop column dst₀ n multiplications₀ whole₀ k₀ dst multiplications whole k =
+    Up m31Units 0 column dst n k whole multiplications
 
 abbrev μ-loop : tie.MeasureT-loop
-μ-loop column dst₀ n whole₀ k₀ dst whole k = n - k
+μ-loop column dst₀ n multiplications₀ whole₀ k₀ dst multiplications whole k = n - k
 
 load-requires : tie.Need-load-requires Inv-loop μ-loop
 load-requires c κs = omega arith
@@ -34,6 +35,13 @@ mul-requires c κs =
     let pre = c .before .before .before .before .before .before .before .before .before .before .pre in
     let at = c .before .before .loop in
     (up-unit m31Units pre (at .inv) .0, element-unit m31Units (pre .elements) (at .k) (omega arith) (c .load2 .ensures) .0)
+
+add-multiplications : tie.Need-add-multiplications Inv-loop μ-loop
+add-multiplications c =
+    let test = c .before .before in
+    let head = test .before in
+    let entry = head .before .before .before .before .before .before .before .before in
+    omega (arith, entry .good, test .loop-test .taken, head .loop .inv .count, head .loop .inv .multiplications)
 
 mul-store : tie.Need-mul-store Inv-loop μ-loop
 mul-store c =
@@ -75,5 +83,5 @@ returns c =
 pub products-spec : {M : Type 1} → statement M
 products-spec =
     tie.close
-    (tie.spec Inv-loop μ-loop load-requires store-requires loop-holds mul-load load-requires-2 mul-requires mul-store store-requires-2
-    add-k loop-less loop-again same-length returns)
+    (tie.spec Inv-loop μ-loop load-requires store-requires loop-holds mul-load load-requires-2 mul-requires add-multiplications
+    mul-store store-requires-2 add-k loop-less loop-again same-length returns)

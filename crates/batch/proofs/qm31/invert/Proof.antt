@@ -1,7 +1,10 @@
+use Prim.Native.Nat.{_%_}
+use mathlib.Core.Path.{_≡_, sym, _∙_}
 use native.Mathlib.Omega.{arith}
 use borrow.Author.Needs.{needs}
-use Rattle.batch.specs.Passes.{qm31Units}
-use Rattle.batch.proofs.Montgomery.{lanes-start, lanes-inverted}
+use Rattle.batch.specs.Passes.{size, qm31Units}
+use Rattle.batch.proofs.CountLaws.{four-at-most, no-multiple}
+use Rattle.batch.proofs.FourLanes.{lanes-start, lanes-inverted, lanes-counted}
 use Rattle.batch.proofs.qm31.invert.Statement.{statement}
 use Rattle.batch.proofs.qm31.invert.Tie as tie
 
@@ -12,7 +15,10 @@ same-length : tie.Need-same-length
 same-length c = search needs
 
 returns : tie.Need-returns
-returns c = c .before .before .classic .ensures
+returns c =
+    let column = c .before .before .before .before .before .before .before .args .column .now in
+    let done = c .before .before .classic .ensures in
+    (done .0, done .1 ∙ sym (four-at-most (size qm31Units column) (omega (arith, c .before .before .before .before .if1 .taken))))
 
 classic-requires-2 : tie.Need-classic-requires-2
 classic-requires-2 c κs = c .before .before .before .before .before .pre
@@ -21,7 +27,10 @@ same-length-2 : tie.Need-same-length-2
 same-length-2 c = search needs
 
 returns-2 : tie.Need-returns-2
-returns-2 c = c .before .before .classic2 .ensures
+returns-2 c =
+    let column = c .before .before .before .before .before .before .before .before .args .column .now in
+    let done = c .before .before .classic2 .ensures in
+    (done .0, done .1 ∙ sym (no-multiple (size qm31Units column) (c .before .before .before .before .if2 .taken)))
 
 four-lanes-requires : tie.Need-four-lanes-requires
 four-lanes-requires c κs =
@@ -34,8 +43,11 @@ same-length-3 c = search needs
 returns-3 : tie.Need-returns-3
 returns-3 c =
     let entry = c .before .before .before .before .before .before .before .before in
-    lanes-inverted qm31Units (entry .pre) (omega (arith, c .before .before .before .before .if2 .left))
-    (c .before .before .four-lanes .ensures)
+    let fours : size qm31Units (entry .args .column .now) % 4 ≡ 0 = omega (arith, c .before .before .before .before .if2 .left) in
+    let done = c .before .before .four-lanes .ensures in (
+      lanes-inverted qm31Units (entry .pre) fours (done .0),
+      done .1 ∙ lanes-counted qm31Units (entry .pre) fours (omega (arith, c .before .before .before .before .before .if1 .left)),
+    )
 
 pub invert-spec : {M : Type 1} → statement M
 invert-spec =

@@ -10,10 +10,11 @@ use Rattle.batch.proofs.qm31.lanes_products.Statement.{statement}
 use Rattle.batch.proofs.qm31.lanes_products.Tie as tie
 
 abbrev Inv-loop : tie.InvT-loop
-Inv-loop column dst₀ n whole₀ k₀ dst whole k = Up (laneUnits qm31Units) column dst n k (qm31Lanes whole)
+Inv-loop column dst₀ n multiplications₀ whole₀ k₀ dst multiplications whole k =
+    Up (laneUnits qm31Units) 4 column dst n k (qm31Lanes whole) multiplications
 
 abbrev μ-loop : tie.MeasureT-loop
-μ-loop column dst₀ n whole₀ k₀ dst whole k = n - k
+μ-loop column dst₀ n multiplications₀ whole₀ k₀ dst multiplications whole k = n - k
 
 lanes-load-requires : tie.Need-lanes-load-requires Inv-loop μ-loop
 lanes-load-requires c κs = omega arith
@@ -22,6 +23,9 @@ lanes-mul-requires : tie.Need-lanes-mul-requires Inv-loop μ-loop
 lanes-mul-requires c κs =
     let entry = c .before .before .before in
     record { left = qm31-ones .0; right = first-unit (laneUnits qm31Units) (entry .pre) (c .lanes-load .ensures) }
+
+add-multiplications : tie.Need-add-multiplications Inv-loop μ-loop
+add-multiplications c = search needs
 
 lanes-store-requires : tie.Need-lanes-store-requires Inv-loop μ-loop
 lanes-store-requires c κs = omega arith
@@ -52,6 +56,13 @@ lanes-mul-requires-2 c κs =
       left = up-unit (laneUnits qm31Units) (entry .pre) (at .inv);
       right = element-unit (laneUnits qm31Units) (entry .pre .elements) (at .k) (omega arith) (c .lanes-load2 .ensures);
     }
+
+add-multiplications-2 : tie.Need-add-multiplications-2 Inv-loop μ-loop
+add-multiplications-2 c =
+    let test = c .before .before in
+    let head = test .before in
+    let entry = head .before .before .before .before .before .before .before .before .before in
+    omega (arith, entry .good, test .loop-test .taken, head .loop .inv .count, head .loop .inv .multiplications)
 
 mul-lanes-store : tie.Need-mul-lanes-store Inv-loop μ-loop
 mul-lanes-store c =
@@ -93,5 +104,6 @@ returns c =
 pub lanes-products-spec : {M : Type 1} → statement M
 lanes-products-spec =
     tie.close
-    (tie.spec Inv-loop μ-loop lanes-load-requires lanes-mul-requires lanes-store-requires loop-holds mul-lanes-load
-    lanes-load-requires-2 lanes-mul-requires-2 mul-lanes-store lanes-store-requires-2 add-k loop-less loop-again same-length returns)
+    (tie.spec Inv-loop μ-loop lanes-load-requires lanes-mul-requires add-multiplications lanes-store-requires loop-holds
+    mul-lanes-load lanes-load-requires-2 lanes-mul-requires-2 add-multiplications-2 mul-lanes-store lanes-store-requires-2 add-k
+    loop-less loop-again same-length returns)

@@ -28,6 +28,11 @@ fn table(rows: &[Row]) -> String {
         format!("| {what} | {rust:.3} | {library:.3} | {:.3} | {} |\n", row.ratio(), row.shown_limit())
     };
     let lines: String = rows.iter().map(line).collect();
+    let work = |row: &Row| {
+        let work = row.work?;
+        Some(format!("| {} | {:.6} | {:.6} |\n", row.what, work.multiplications, work.inversions))
+    };
+    let worked: String = rows.iter().filter_map(work).collect();
     format!(
         "# Benchmark\n\n\
         Written by `taripomune bench`: nanoseconds an element of the Rust and of the library, measured in turn in one\n\
@@ -35,7 +40,9 @@ fn table(rows: &[Row]) -> String {
         is the library's algorithm (`oracle/speed`), the other one is stwo's. A row without a limit has no bar in the\n\
         plot.{}\n\n\
         ![The times of the library divided by those of the Rust](benchmark.svg)\n\n\
-        | what | Rust | library | ratio | limit |\n|---|---|---|---|---|\n{lines}",
+        | what | Rust | library | ratio | limit |\n|---|---|---|---|---|\n{lines}\n\
+        The multiplications and inversions of batch inversion for each element, as the library counts them:\n\n\
+        | what | multiplications | inversions |\n|---|---|---|\n{worked}",
         processor().map_or(String::new(), |name| format!(" Processor: {name}."))
     )
 }

@@ -30,6 +30,7 @@ pub fn bench(folder: Option<&Path>, output: Output) -> Result<(), Failure> {
     output.say(&heading());
     for row in &rows {
         output.say(&row.line());
+        row.work.iter().for_each(|work| output.say(&work.line()));
         output.object(&object(row, output));
     }
     if rows.iter().any(|row| !row.equal) {
@@ -42,6 +43,10 @@ pub fn bench(folder: Option<&Path>, output: Output) -> Result<(), Failure> {
 fn object(row: &speed::Row, output: Output) -> Object {
     let object = output.event("row").text("what", row.what).number("rust", row.rust).number("library", row.library);
     let object = object.number("ratio", row.ratio()).number("equal", row.equal);
+    let object = match row.work {
+        Some(work) => object.number("multiplications", work.multiplications).number("inversions", work.inversions),
+        None => object,
+    };
     match row.limit.is_finite() {
         true => object.number("limit", row.limit),
         false => object.null("limit"),

@@ -81,7 +81,7 @@ mod tests {
 
     #[test]
     fn each_row_with_a_limit_has_a_bar_as_long_as_its_ratio() {
-        let row = |what, library| Row { what, rust: 2.0, library, limit: 1.0, equal: true };
+        let row = |what, library| Row { what, rust: 2.0, library, limit: 1.0, equal: true, work: None };
         let unlimited = Row { limit: f64::INFINITY, ..row("unlimited", 60.0) };
         let text = plot(&[row("half", 1.0), unlimited, row("a < b", 2.0)]);
         assert_eq!(text.matches("<rect x=").count(), 2);
