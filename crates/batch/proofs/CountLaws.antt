@@ -44,17 +44,17 @@ module _ (U : Units) (single : U .multiplications ≡ 1) {column exit exit′ : 
 
 -- ---- which pass is taken
 
-pub four-at-most : (n : ℕ) → n ≤ 4 → passCounts n ≡ plainPass n
+pub plain-up-to-four : (n : ℕ) → n ≤ 4 → passCounts n ≡ plainPass n
 unfolding passCounts
-four-at-most n h = rw (le-ltb 4 n h)
+plain-up-to-four n h = rw (le-ltb 4 n h)
 
-pub no-multiple : (n : ℕ) → ¬ (n % 4 ≡ 0) → passCounts n ≡ plainPass n
+pub plain-unless-multiple : (n : ℕ) → ¬ (n % 4 ≡ 0) → passCounts n ≡ plainPass n
 unfolding passCounts
-no-multiple n h = rw (ne-eqb (n % 4) 0 h, and-false (ltb 4 n))
+plain-unless-multiple n h = rw (ne-eqb (n % 4) 0 h, and-false (ltb 4 n))
 
-pub above-four : (n : ℕ) → 4 < n → n % 4 ≡ 0 → passCounts n ≡ fourLanePass n
+pub four-lanes-above-four : (n : ℕ) → 4 < n → n % 4 ≡ 0 → passCounts n ≡ fourLanePass n
 unfolding passCounts
-above-four n h e = rw (lt-ltb 4 n h, eq-eqb (n % 4) 0 e)
+four-lanes-above-four n h e = rw (lt-ltb 4 n h, eq-eqb (n % 4) 0 e)
 
 -- ---- how much it can be
 

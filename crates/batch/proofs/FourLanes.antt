@@ -12,7 +12,7 @@ use Rattle.batch.specs.Passes.{Units, UnitColumn, Holds, size, at, inver
 use Rattle.batch.specs.PassContracts.{Inverting, Inverted, BeforeProducts}
 use Rattle.batch.proofs.Montgomery.{same-unit}
 use Rattle.batch.proofs.InvertedLists.{length-inverted, inverted-holds, is-inverted-whole}
-use Rattle.batch.proofs.CountLaws.{above-four}
+use Rattle.batch.proofs.CountLaws.{four-lanes-above-four}
 
 module _ (U : Units) where
   open Units U using (layout, mul, inverse, Unit, mul-unit, inverse-first, inverse-second)
@@ -139,4 +139,4 @@ module _ (U : Units) {column dst : List ℕ} (p : Inverting U column dst) (fours
 
   -- and count as the four-lane pass does
   pub lanes-counted : 4 < n → fourLanePass (m * 4) ≡ passCounts n
-  lanes-counted more = ap fourLanePass (omega (arith, four-each)) ∙ sym (above-four n more fours)
+  lanes-counted more = ap fourLanePass (omega (arith, four-each)) ∙ sym (four-lanes-above-four n more fours)

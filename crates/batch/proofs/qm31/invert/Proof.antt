@@ -3,7 +3,7 @@ use mathlib.Core.Path.{_≡_, sym, _∙_}
 use native.Mathlib.Omega.{arith}
 use borrow.Author.Needs.{needs}
 use Rattle.batch.specs.Passes.{size, qm31Units}
-use Rattle.batch.proofs.CountLaws.{four-at-most, no-multiple}
+use Rattle.batch.proofs.CountLaws.{plain-up-to-four, plain-unless-multiple}
 use Rattle.batch.proofs.FourLanes.{lanes-start, lanes-inverted, lanes-counted}
 use Rattle.batch.proofs.qm31.invert.Statement.{statement}
 use Rattle.batch.proofs.qm31.invert.Tie as tie
@@ -18,7 +18,7 @@ returns : tie.Need-returns
 returns c =
     let column = c .before .before .before .before .before .before .before .args .column .now in
     let done = c .before .before .classic .ensures in
-    (done .0, done .1 ∙ sym (four-at-most (size qm31Units column) (omega (arith, c .before .before .before .before .if1 .taken))))
+    (done .0, done .1 ∙ sym (plain-up-to-four (size qm31Units column) (omega (arith, c .before .before .before .before .if1 .taken))))
 
 classic-requires-2 : tie.Need-classic-requires-2
 classic-requires-2 c κs = c .before .before .before .before .before .pre
@@ -30,7 +30,7 @@ returns-2 : tie.Need-returns-2
 returns-2 c =
     let column = c .before .before .before .before .before .before .before .before .args .column .now in
     let done = c .before .before .classic2 .ensures in
-    (done .0, done .1 ∙ sym (no-multiple (size qm31Units column) (c .before .before .before .before .if2 .taken)))
+    (done .0, done .1 ∙ sym (plain-unless-multiple (size qm31Units column) (c .before .before .before .before .if2 .taken)))
 
 four-lanes-requires : tie.Need-four-lanes-requires
 four-lanes-requires c κs =
