@@ -39,7 +39,7 @@ fn store(dst: &mut [u32], to: usize, a: CM31)
 }
 
 // The product of a column, and the multiplications made for it.
-#[derive(Drop)]
+#[derive(Clone, Copy)]
 pub struct Product {
     pub whole: CM31,
     pub multiplications: u64,
@@ -114,7 +114,7 @@ fn classic(column: &[u32], dst: &mut [u32]) -> Counts
 }
 
 // Four elements side by side, which don't wait for one another.
-#[derive(Drop)]
+#[derive(Clone, Copy)]
 pub struct Lanes(pub CM31, pub CM31, pub CM31, pub CM31);
 
 fn lanes_load(column: &[u32], from: usize) -> Lanes
@@ -161,7 +161,7 @@ fn lanes_mul(a: Lanes, b: Lanes) -> Lanes
 }
 
 // Four inverses, and what was made for them.
-#[derive(Drop)]
+#[derive(Clone, Copy)]
 pub struct LanesInverse {
     pub lanes: Lanes,
     pub multiplications: u64,
@@ -207,7 +207,7 @@ fn lanes_inverse(a: Lanes) -> LanesInverse
 }
 
 // The product of each lane, and the multiplications made for them.
-#[derive(Drop)]
+#[derive(Clone, Copy)]
 pub struct LanesProduct {
     pub whole: Lanes,
     pub multiplications: u64,

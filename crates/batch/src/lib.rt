@@ -1,4 +1,6 @@
 // Batch inversion (from stwo's fields/mod.rs), for the three fields: the inverses of a whole column.
+#![tactic(auto)]
+
 ghost use Rattle.std.specs.Prelude.{◌≡◌, ◌+◌, ◌-◌, ◌*◌, ◌/◌, ◌%◌, ◌<◌, ◌≤◌, true, ◌&&◌, leb, length, if◌then◌else◌, ◌==◌, nat_le};
 ghost use Rattle.batch.specs.Counts.{pass_counts, chunked_counts};
 ghost use Rattle.batch.specs.Batch.{column_of, m31_column, first_zero, invertible, chunked_checks};
@@ -19,7 +21,7 @@ mod m31;
 mod qm31;
 
 // whose elements a column holds
-#[derive(Drop)]
+#[derive(Clone, Copy)]
 pub enum Field {
     M31,
     CM31,

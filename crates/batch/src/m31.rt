@@ -35,7 +35,7 @@ fn store(dst: &mut [u32], to: usize, a: u32)
 }
 
 // The product of a column, and the multiplications made for it.
-#[derive(Drop)]
+#[derive(Clone, Copy)]
 pub struct Product {
     pub whole: u32,
     pub multiplications: u64,
@@ -110,7 +110,7 @@ fn classic(column: &[u32], dst: &mut [u32]) -> Counts
 }
 
 // Four elements side by side, which don't wait for one another.
-#[derive(Drop)]
+#[derive(Clone, Copy)]
 pub struct Lanes(pub u32, pub u32, pub u32, pub u32);
 
 fn lanes_load(column: &[u32], from: usize) -> Lanes
@@ -145,7 +145,7 @@ fn lanes_mul(a: Lanes, b: Lanes) -> Lanes
 }
 
 // Four inverses, and what was made for them.
-#[derive(Drop)]
+#[derive(Clone, Copy)]
 pub struct LanesInverse {
     pub lanes: Lanes,
     pub multiplications: u64,
@@ -187,7 +187,7 @@ fn lanes_inverse(a: Lanes) -> LanesInverse
 }
 
 // The product of each lane, and the multiplications made for them.
-#[derive(Drop)]
+#[derive(Clone, Copy)]
 pub struct LanesProduct {
     pub whole: Lanes,
     pub multiplications: u64,

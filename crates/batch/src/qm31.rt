@@ -46,7 +46,7 @@ fn store(dst: &mut [u32], to: usize, a: QM31)
 }
 
 // The product of a column, and the multiplications made for it.
-#[derive(Drop)]
+#[derive(Clone, Copy)]
 pub struct Product {
     pub whole: QM31,
     pub multiplications: u64,
@@ -121,7 +121,7 @@ fn classic(column: &[u32], dst: &mut [u32]) -> Counts
 }
 
 // Four elements side by side, which don't wait for one another.
-#[derive(Drop)]
+#[derive(Clone, Copy)]
 pub struct Lanes(pub QM31, pub QM31, pub QM31, pub QM31);
 
 fn lanes_load(column: &[u32], from: usize) -> Lanes
@@ -168,7 +168,7 @@ fn lanes_mul(a: Lanes, b: Lanes) -> Lanes
 }
 
 // Four inverses, and what was made for them.
-#[derive(Drop)]
+#[derive(Clone, Copy)]
 pub struct LanesInverse {
     pub lanes: Lanes,
     pub multiplications: u64,
@@ -214,7 +214,7 @@ fn lanes_inverse(a: Lanes) -> LanesInverse
 }
 
 // The product of each lane, and the multiplications made for them.
-#[derive(Drop)]
+#[derive(Clone, Copy)]
 pub struct LanesProduct {
     pub whole: Lanes,
     pub multiplications: u64,

@@ -9,10 +9,10 @@ use fields::refusal::Refusal;
 pub mod inner;
 
 // below 2^31, the order of G: no two indices have the same point
-#[derive(Drop)]
+#[derive(Clone, Copy)]
 pub struct CirclePointIndex(pub u64);
 
-#[derive(Drop)]
+#[derive(Clone, Copy)]
 pub enum CirclePointIndexAnswer {
     Value(CirclePointIndex),
     Refused(Refusal),

@@ -18,13 +18,13 @@ use fields::wide::U128;
 
 pub mod inner;
 
-#[derive(Drop)]
+#[derive(Clone, Copy)]
 pub struct CirclePoint {
     pub x: M31,
     pub y: M31,
 }
 
-#[derive(Drop)]
+#[derive(Clone, Copy)]
 pub enum CirclePointAnswer {
     Value(CirclePoint),
     Refused(Refusal),

@@ -17,13 +17,13 @@ use fields::wide::U128;
 
 pub mod inner;
 
-#[derive(Drop)]
+#[derive(Clone, Copy)]
 pub struct SecureCirclePoint {
     pub x: QM31,
     pub y: QM31,
 }
 
-#[derive(Drop)]
+#[derive(Clone, Copy)]
 pub enum SecureCirclePointAnswer {
     Value(SecureCirclePoint),
     Refused(Refusal),

@@ -14,12 +14,12 @@ use fields::log_size::inner::two_to;
 use fields::log_size::is_log_size;
 use fields::refusal::Refusal;
 
-#[derive(Drop)]
+#[derive(Clone, Copy)]
 pub struct CanonicCoset {
     pub coset: Coset,
 }
 
-#[derive(Drop)]
+#[derive(Clone, Copy)]
 pub enum CanonicCosetAnswer {
     Value(CanonicCoset),
     Refused(Refusal),

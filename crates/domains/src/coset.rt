@@ -15,7 +15,7 @@ use fields::refusal::Refusal;
 
 pub mod inner;
 
-#[derive(Drop)]
+#[derive(Clone, Copy)]
 pub struct Coset {
     pub initial_index: CirclePointIndex,
     pub initial: CirclePoint,
@@ -24,7 +24,7 @@ pub struct Coset {
     pub log_size: u32,
 }
 
-#[derive(Drop)]
+#[derive(Clone, Copy)]
 pub enum CosetAnswer {
     Value(Coset),
     Refused(Refusal),

@@ -15,12 +15,12 @@ use fields::check::Check;
 use fields::log_size::inner::two_to;
 use fields::refusal::Refusal;
 
-#[derive(Drop)]
+#[derive(Clone, Copy)]
 pub struct CircleDomain {
     pub half_coset: Coset,
 }
 
-#[derive(Drop)]
+#[derive(Clone, Copy)]
 pub enum CircleDomainAnswer {
     Value(CircleDomain),
     Refused(Refusal),

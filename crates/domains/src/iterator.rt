@@ -9,20 +9,20 @@ use circle::index::{CirclePointIndex, inner as index};
 use fields::check::Check;
 use fields::refusal::Refusal;
 
-#[derive(Drop)]
+#[derive(Clone, Copy)]
 pub struct CosetIterator {
     pub cur: CirclePointIndex,
     pub step: CirclePointIndex,
     pub remaining: u64,
 }
 
-#[derive(Drop)]
+#[derive(Clone, Copy)]
 pub enum CosetIteratorAnswer {
     Value(CosetIterator),
     Refused(Refusal),
 }
 
-#[derive(Drop)]
+#[derive(Clone, Copy)]
 pub enum CosetStep {
     // the index, and the iterator after it
     Next(CirclePointIndex, CosetIterator),
@@ -67,19 +67,19 @@ impl CosetIterator {
 }
 
 // The half coset's iterator, then its conjugate's.
-#[derive(Drop)]
+#[derive(Clone, Copy)]
 pub struct CircleDomainIndexIterator {
     pub first: CosetIterator,
     pub second: CosetIterator,
 }
 
-#[derive(Drop)]
+#[derive(Clone, Copy)]
 pub enum CircleDomainIndexIteratorAnswer {
     Value(CircleDomainIndexIterator),
     Refused(Refusal),
 }
 
-#[derive(Drop)]
+#[derive(Clone, Copy)]
 pub enum CircleDomainStep {
     // the index, and the iterator after it
     Next(CirclePointIndex, CircleDomainIndexIterator),

@@ -1,4 +1,6 @@
 // Cosets, canonic cosets and circle domains (stwo's circle.rs from Coset on, canonic.rs and domain.rs).
+#![tactic(auto)]
+
 pub mod canonic;
 pub mod coset;
 pub mod domain;

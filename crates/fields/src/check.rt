@@ -5,7 +5,7 @@ ghost use Rattle.fields.specs.CheckLaws.{in_turn};
 
 use crate::refusal::Refusal;
 
-#[derive(Drop)]
+#[derive(Clone, Copy)]
 pub enum Check {
     Passed,
     Refused(Refusal),

@@ -15,10 +15,10 @@ pub mod inner;
 // the order of the field, P^2
 pub const P2: u64 = P_SQUARED;
 
-#[derive(Drop)]
+#[derive(Clone, Copy)]
 pub struct CM31(pub M31, pub M31);
 
-#[derive(Drop)]
+#[derive(Clone, Copy)]
 pub enum CM31Answer {
     Value(CM31),
     Refused(Refusal),

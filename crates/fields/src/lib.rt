@@ -1,5 +1,7 @@
 // The fields (stwo's core/fields): M31, CM31 and QM31, and what every layer shares: refusals, checks,
 // answers, columns, log sizes, wide and signed numbers.
+#![tactic(auto)]
+
 pub mod answer;
 pub mod check;
 pub mod cm31;

@@ -21,12 +21,12 @@ const TWO_P: u32 = 4294967294;
 
 pub const P_SQUARED: u64 = 4611686014132420609;
 
-#[derive(Drop)]
+#[derive(Clone, Copy)]
 pub struct M31(pub u32);
 
 pub type BaseField = M31;
 
-#[derive(Drop)]
+#[derive(Clone, Copy)]
 pub enum M31Answer {
     Value(M31),
     Refused(Refusal),

@@ -25,19 +25,19 @@ pub const P4_LOW: u64 = 9223372028264841217;
 // words of an element
 pub const SECURE_EXTENSION_DEGREE: usize = 4;
 
-#[derive(Drop)]
+#[derive(Clone, Copy)]
 pub struct QM31(pub CM31, pub CM31);
 
 pub type SecureField = QM31;
 
-#[derive(Drop)]
+#[derive(Clone, Copy)]
 pub enum QM31Answer {
     Value(QM31),
     Refused(Refusal),
 }
 
 // the four words of an element, as M31
-#[derive(Drop)]
+#[derive(Clone, Copy)]
 pub enum M31ArrayAnswer {
     Value(M31, M31, M31, M31),
     Refused(Refusal),

@@ -2,7 +2,7 @@
 ghost use Rattle.std.specs.Prelude.{◌≡◌};
 ghost use Rattle.fields.specs.Signed.{parts_of};
 
-#[derive(Drop)]
+#[derive(Clone, Copy)]
 pub struct SignAndSize {
     pub negative: bool,
     pub size: u64,

@@ -2,7 +2,7 @@
 ghost use Rattle.std.specs.Prelude.{◌≡◌, ◌/◌, ◌%◌, ◌==◌};
 ghost use Rattle.fields.specs.Wide.{number};
 
-#[derive(Drop)]
+#[derive(Clone, Copy)]
 pub struct U128 {
     pub high: u64,
     pub low: u64,

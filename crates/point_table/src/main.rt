@@ -1,4 +1,6 @@
 // Writes the table of points, computed from G alone, an entry a line: window, digit, x, y.
+#![tactic(auto)]
+
 ghost use Rattle.std.specs.Prelude.{◌≡◌, ◌<◌};
 ghost use Rattle.circle.specs.Table.{windows, table_words};
 

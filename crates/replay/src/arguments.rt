@@ -4,7 +4,7 @@ use crate::line::until;
 use crate::row::{MOST, Row};
 
 // How a line gives a slice: its length and then its words, or the four numbers of the rule that makes it.
-#[derive(Drop)]
+#[derive(Clone, Copy)]
 pub enum Form {
     Words,
     Rule,
@@ -13,7 +13,7 @@ pub enum Form {
 // What a line gives the call at a place of a table: the numbers that are no slice, modulo 2^64, and the kinds of at most
 // two slices with where they begin in the row. The place is NONE where the table lacks the name, or where the row's
 // arguments aren't of the call's kinds.
-#[derive(Drop)]
+#[derive(Clone, Copy)]
 pub struct Arguments {
     pub place: usize,
     pub numbers: [u64; MOST],

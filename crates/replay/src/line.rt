@@ -23,7 +23,7 @@ pub fn is_comment(line: &[u8]) -> bool {
 }
 
 // A word of a line: the size of a number from zero on or of one below zero, or no number.
-#[derive(Drop)]
+#[derive(Clone, Copy)]
 pub enum Number {
     Natural(u64),
     Negative(u64),

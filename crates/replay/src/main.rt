@@ -1,4 +1,6 @@
 // Replays the recorded answers of data/ through the C entry points, and prints how many came out as recorded.
+#![tactic(auto)]
+
 mod arguments;
 mod calls;
 mod line;
@@ -10,7 +12,7 @@ mod values;
 
 use crate::arguments::Form;
 
-#[derive(Drop)]
+#[derive(Clone, Copy)]
 struct Tally {
     same: u64,
     different: u64,

@@ -2,7 +2,7 @@
 use crate::row::MOST;
 
 // The numbers that a call answered; none where there is no such call.
-#[derive(Drop)]
+#[derive(Clone, Copy)]
 pub struct Reply {
     pub numbers: [u64; MOST],
     pub count: usize,

@@ -7,7 +7,7 @@ pub const MOST: usize = 64;
 
 // The sizes of at most MOST numbers and which are below zero, `arguments` of them before the sign =, which stands once;
 // bad where the line doesn't read so. Until the sign has come, `arguments` is NONE.
-#[derive(Drop)]
+#[derive(Clone, Copy)]
 pub struct Row {
     pub sizes: [u64; MOST],
     pub negative: [bool; MOST],

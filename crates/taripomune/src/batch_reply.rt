@@ -6,7 +6,7 @@ use batch::counts::BatchAnswer;
 
 // multiplications of elements and inversions
 #[repr(C)]
-#[derive(Drop)]
+#[derive(Clone, Copy)]
 pub struct BatchReply {
     pub number: u32,
     pub position: u64,

@@ -13,7 +13,7 @@ use domains::iterator::{
 
 // a coset, also that of a canonic coset and the half coset of a circle domain
 #[repr(C)]
-#[derive(Drop)]
+#[derive(Clone, Copy)]
 pub struct CosetReply {
     pub number: u32,
     pub position: u64,
@@ -27,7 +27,7 @@ pub struct CosetReply {
 }
 
 #[repr(C)]
-#[derive(Drop)]
+#[derive(Clone, Copy)]
 pub struct CosetIteratorReply {
     pub number: u32,
     pub position: u64,
@@ -38,7 +38,7 @@ pub struct CosetIteratorReply {
 
 // done is 0 where an index is handed back, with the iterator after it; else 1, with index 0 and the iterator as it was
 #[repr(C)]
-#[derive(Drop)]
+#[derive(Clone, Copy)]
 pub struct CosetStepReply {
     pub number: u32,
     pub position: u64,
@@ -51,7 +51,7 @@ pub struct CosetStepReply {
 
 // the half coset's iterator, then its conjugate's
 #[repr(C)]
-#[derive(Drop)]
+#[derive(Clone, Copy)]
 pub struct CircleDomainIndexIteratorReply {
     pub number: u32,
     pub position: u64,
@@ -65,7 +65,7 @@ pub struct CircleDomainIndexIteratorReply {
 
 // as CosetStepReply
 #[repr(C)]
-#[derive(Drop)]
+#[derive(Clone, Copy)]
 pub struct CircleDomainStepReply {
     pub number: u32,
     pub position: u64,

@@ -1,4 +1,6 @@
 // The C interface: numbers and slices in, one struct of numbers out. include/taripomune.h declares it for C.
+#![tactic(auto)]
+
 pub mod batch_inverse;
 pub mod batch_reply;
 pub mod canonic_coset;

@@ -12,7 +12,7 @@ use fields::m31::M31Answer;
 use fields::qm31::{M31ArrayAnswer, QM31Answer};
 
 #[repr(C)]
-#[derive(Drop)]
+#[derive(Clone, Copy)]
 pub struct M31Reply {
     pub number: u32,
     pub position: u64,
@@ -21,7 +21,7 @@ pub struct M31Reply {
 
 // yes is 1, no is 0
 #[repr(C)]
-#[derive(Drop)]
+#[derive(Clone, Copy)]
 pub struct BoolReply {
     pub number: u32,
     pub position: u64,
@@ -30,7 +30,7 @@ pub struct BoolReply {
 
 // a log size or a count
 #[repr(C)]
-#[derive(Drop)]
+#[derive(Clone, Copy)]
 pub struct U32Reply {
     pub number: u32,
     pub position: u64,
@@ -39,7 +39,7 @@ pub struct U32Reply {
 
 // a position or a size
 #[repr(C)]
-#[derive(Drop)]
+#[derive(Clone, Copy)]
 pub struct U64Reply {
     pub number: u32,
     pub position: u64,
@@ -48,7 +48,7 @@ pub struct U64Reply {
 
 // the words of a + bi
 #[repr(C)]
-#[derive(Drop)]
+#[derive(Clone, Copy)]
 pub struct CM31Reply {
     pub number: u32,
     pub position: u64,
@@ -58,7 +58,7 @@ pub struct CM31Reply {
 
 // the words of (a + bi) + (c + di)u
 #[repr(C)]
-#[derive(Drop)]
+#[derive(Clone, Copy)]
 pub struct QM31Reply {
     pub number: u32,
     pub position: u64,
@@ -70,7 +70,7 @@ pub struct QM31Reply {
 
 // a point over M31
 #[repr(C)]
-#[derive(Drop)]
+#[derive(Clone, Copy)]
 pub struct PointReply {
     pub number: u32,
     pub position: u64,
@@ -80,7 +80,7 @@ pub struct PointReply {
 
 // a point over QM31: the words of x and then of y
 #[repr(C)]
-#[derive(Drop)]
+#[derive(Clone, Copy)]
 pub struct SecurePointReply {
     pub number: u32,
     pub position: u64,
@@ -95,7 +95,7 @@ pub struct SecurePointReply {
 }
 
 #[repr(C)]
-#[derive(Drop)]
+#[derive(Clone, Copy)]
 pub struct IndexReply {
     pub number: u32,
     pub position: u64,
@@ -104,7 +104,7 @@ pub struct IndexReply {
 
 // of a call that writes to a lent slice
 #[repr(C)]
-#[derive(Drop)]
+#[derive(Clone, Copy)]
 pub struct WriteReply {
     pub number: u32,
     pub position: u64,

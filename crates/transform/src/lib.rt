@@ -1,4 +1,6 @@
 // The transform between a column's values on the canonic circle domain and its coefficients.
+#![tactic(auto)]
+
 ghost use Rattle.std.specs.Prelude.{◌≡◌, length};
 ghost use Rattle.transform.specs.Transform.{transform_answer, Evaluated, Interpolated};
 

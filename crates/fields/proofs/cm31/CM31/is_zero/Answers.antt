@@ -1,0 +1,12 @@
+use Rattle.std.proofs.Common.{rules}
+use Rattle.fields.specs.CM31.{is_zero_answer}
+use Rattle.fields.specs.AnswerLaws.{answers, complexes}
+use Rattle.fields.proofs.cm31.CM31.is_zero.Goals as goal
+
+pub returns-then-not-is_reduced : goal.returns-then-not-is_reduced
+unfolding is_zero_answer
+returns-then-not-is_reduced c = search (answers, complexes, rules)
+
+pub returns : goal.returns
+unfolding is_zero_answer
+returns c = search (answers, complexes, rules)

@@ -1,0 +1,26 @@
+use Rattle.std.proofs.Common.{ap, ◌∙◌, rules}
+use Rattle.fields.specs.Words.{words31, complex_words}
+use Rattle.algebra.specs.Extension.{embed}
+use Rattle.fields.specs.CM31.{base_div_answer}
+use Rattle.fields.specs.AnswerLaws.{answers, complexes}
+use Rattle.fields.proofs.m31.M31.div_cm31.Goals as goal
+
+pub returns-then-self-ge-P : goal.returns-then-self-ge-P
+unfolding base_div_answer
+returns-then-self-ge-P c = search (answers, complexes, rules)
+
+pub returns-then-not-is_reduced : goal.returns-then-not-is_reduced
+unfolding base_div_answer
+returns-then-not-is_reduced c = search (answers, complexes, rules)
+
+pub returns-then-is_zero : goal.returns-then-is_zero
+unfolding base_div_answer
+returns-then-is_zero c = search (answers, complexes, rules)
+
+pub inverse-requires : goal.inverse-requires
+inverse-requires c = search (answers, complexes, rules)
+
+pub returns : goal.returns
+unfolding base_div_answer
+returns c = let e = c.mul_m31.ensures.0 ∙ ap (λ t. complex_words.mul t (embed words31 c.args.self.0)) c.inverse.ensures.0 in
+    search (answers, complexes, rules)

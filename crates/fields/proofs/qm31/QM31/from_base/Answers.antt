@@ -1,0 +1,12 @@
+use Rattle.std.proofs.Common.{rules}
+use Rattle.fields.specs.QM31.{from_base_answer}
+use Rattle.fields.specs.AnswerLaws.{answers, quartics}
+use Rattle.fields.proofs.qm31.QM31.from_base.Goals as goal
+
+pub returns-then-x-ge-P : goal.returns-then-x-ge-P
+unfolding from_base_answer
+returns-then-x-ge-P c = search (answers, quartics, rules)
+
+pub returns : goal.returns
+unfolding from_base_answer
+returns c = search (answers, quartics, rules)

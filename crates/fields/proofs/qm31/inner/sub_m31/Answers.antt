@@ -1,0 +1,17 @@
+use Rattle.std.proofs.Common.{refl, ◌∙◌, rules}
+use Rattle.algebra.specs.Tower.{cm31, two_plus_i}
+use Rattle.algebra.specs.Extension.{embed}
+use Rattle.fields.specs.Words.{words31, complex_words}
+use Rattle.fields.specs.CM31.{pair_of}
+use Rattle.fields.specs.Representation.{sub-embed}
+use Rattle.fields.specs.Inverse.{cm31_representation}
+use Rattle.fields.specs.PairLaws.{pair_path}
+use Rattle.fields.proofs.qm31.inner.sub_m31.Goals as goal
+
+pub returns : goal.returns
+returns c = (
+  pair_path c.sub_m31.ensures.0 refl
+      ∙ sub-embed complex_words cm31 cm31_representation (two_plus_i words31) (pair_of c.args.a.0)
+      (pair_of c.args.a.1) (embed words31 c.args.b) (search rules),
+  (c.sub_m31.ensures.1, search rules),
+)
