@@ -1,4 +1,4 @@
--- Repeated doubling, of points and of an x alone: a point of the circle over M31 reaches zero in at most 31 doublings.
+-- Repeated doubling, of points and of an x alone.
 use Prim.Native.Nat.{ℕ, zero, suc, ◌+◌, ◌^◌}
 use Rattle.std.specs.Prelude.{◌≡◌, [], ◌∷◌}
 use Rattle.std.proofs.Math.Path.{refl, sym, ap}
@@ -7,13 +7,10 @@ use Rattle.std.proofs.Math.Nat as N
 use Rattle.algebra.specs.Ring.{Ops, Laws}
 use Rattle.algebra.specs.Polynomial.{Expr, ◌:+◌, ◌:*◌, :-◌, exprs, given, v0, v1}
 use Rattle.algebra.specs.Solver.{solve_from}
-use Rattle.algebra.specs.ZMod.{Z}
 use Rattle.algebra.specs.Field.{Field}
 use Rattle.algebra.specs.Field as F
-use Rattle.algebra.specs.M31.{P, m31, m31_laws}
 use Rattle.algebra.specs.Circle.{plus, zero_point, multiple, squares, OnCircle, double_x}
 use Rattle.algebra.specs.Circle.{multiple-one, multiple-two, multiple-mul, on_plus, plus_self_x}
-use Rattle.algebra.specs.Frobenius.{circle_order}
 
 -- f applied n times
 unfoldable pub iterate : {A : Type 0} → ℕ → (A → A) → A → A
@@ -63,6 +60,3 @@ zero_by_x O K p h e = λ i. (e i, y_is_zero i)
         F.square_zero O K p.1
         (solve_from O K.laws (p.0 ∷ p.1 ∷ [])
         (given Expr.:1 (squares exprs (v0, v1)) Expr.:1 ∷ given (:- (v0 :+ Expr.:1)) v0 Expr.:1 ∷ []) (h, (e, tt)) (v1 :* v1) Expr.:0 tt)
-
-pub doublings_31 : (p : Z P × Z P) → OnCircle m31 p → iterate 31 (double m31) p ≡ zero_point m31
-doublings_31 p h = doublings_multiple m31 m31_laws 31 p ∙ circle_order p h

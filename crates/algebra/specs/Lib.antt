@@ -13,10 +13,7 @@ pub mod PrimeField
 pub mod M31
 pub mod Tower
 pub mod Circle
-pub mod Frobenius
 pub mod Generator
 pub mod Homomorphism
 pub mod Doubling
 pub mod CircleHomomorphism
-pub mod ZeroX
-pub mod AllPoints

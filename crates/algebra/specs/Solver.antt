@@ -7,7 +7,7 @@ use Rattle.std.proofs.Math.Nat as N
 use Rattle.std.proofs.Math.Dec.{compare_is_eq}
 use Rattle.algebra.specs.Ring.{Ops, Laws}
 use Rattle.algebra.specs.Ring as R
-use Rattle.algebra.specs.Polynomial.{Expr, ◌:+◌, ◌:*◌, :-◌, Poly, nil, term, compare_vars, place_var, insert_var, mul_vars, place_term}
+use Rattle.algebra.specs.Polynomial.{Expr, ◌:+◌, :-◌, Poly, nil, term, compare_vars, place_var, insert_var, mul_vars, place_term}
 use Rattle.algebra.specs.Polynomial.{insert_term, add_poly, mul_term, mul_poly, neg_poly, normal, is_zero, equal, Given, given, combined}
 
 -- what an expression, a monomial and a sum of monomials stand for

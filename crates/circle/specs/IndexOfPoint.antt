@@ -8,7 +8,7 @@ use Rattle.algebra.specs.M31.{P, m31, element}
 use Rattle.algebra.specs.Homomorphism.{on_pair}
 use Rattle.algebra.specs.Circle.{plus, squares, OnCircle}
 use Rattle.algebra.specs.CircleHomomorphism.{to_squares}
-use Rattle.algebra.specs.AllPoints.{all_multiples}
+use Rattle.algebra.proofs.AllPoints.{all_multiples}
 use Rattle.fields.specs.Words.{words31}
 use Rattle.fields.specs.Elements.{element_homomorphism}
 use Rattle.fields.specs.Search.{first}

@@ -11,7 +11,8 @@ use Rattle.algebra.specs.Homomorphism.{on_pair}
 use Rattle.algebra.specs.Circle.{plus, multiple, squares, OnCircle, on_multiple}
 use Rattle.algebra.specs.CircleHomomorphism.{to_multiple, to_squares}
 use Rattle.algebra.specs.Doubling.{double}
-use Rattle.algebra.specs.Generator.{G, G_on, G_equal, G_quarter, G_antipode, G_conjugate}
+use Rattle.algebra.specs.Generator.{G}
+use Rattle.algebra.proofs.Generator.{G_on, G_equal, G_quarter, G_antipode, G_conjugate}
 use Rattle.fields.specs.Words.{neg_p, words31}
 use Rattle.fields.specs.Elements.{element_homomorphism}
 use Rattle.fields.specs.Representation.{solve_words}

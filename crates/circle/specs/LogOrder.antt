@@ -3,11 +3,13 @@ use Rattle.std.specs.Prelude.{◌≡◌, ℕ, zero, suc, ◌<◌, ◌≤◌, Boo
 use Rattle.std.proofs.Common.{sym, ◌∙◌, ap, ap₂, true≢false, arith, eqb-true}
 use Rattle.std.proofs.Math.Bool.{and-eq-true_iff}
 use Rattle.std.proofs.Math.Nat as N
-use Rattle.algebra.specs.M31.{P, m31, m31_laws, m31_field, element}
+use Rattle.algebra.specs.M31.{P, m31, m31_laws, element}
+use Rattle.algebra.proofs.M31.{m31_field}
 use Rattle.algebra.specs.Homomorphism.{on_pair}
 use Rattle.algebra.specs.Circle.{zero_point, OnCircle, double_x}
 use Rattle.algebra.specs.CircleHomomorphism.{to_squares, to_doublings, to_doublings_x}
-use Rattle.algebra.specs.Doubling.{iterate, double, on_doublings, doublings_x, zero_by_x, doublings_31}
+use Rattle.algebra.specs.Doubling.{iterate, double, on_doublings, doublings_x, zero_by_x}
+use Rattle.algebra.proofs.Doubling.{doublings_31}
 use Rattle.fields.specs.Words.{words31}
 use Rattle.fields.specs.Elements.{element_homomorphism}
 use Rattle.fields.specs.Inverse.{m31_representation}

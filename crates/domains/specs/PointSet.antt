@@ -15,7 +15,7 @@ use Rattle.algebra.specs.Circle.{multiple, squares, OnCircle, double_x}
 use Rattle.algebra.specs.CircleHomomorphism.{to_squares}
 use Rattle.algebra.specs.Doubling.{iterate}
 use Rattle.algebra.specs.Generator.{G}
-use Rattle.algebra.specs.ZeroX.{OddMultiple, odd_multiples}
+use Rattle.algebra.proofs.ZeroX.{OddMultiple, odd_multiples}
 use Rattle.fields.specs.Words.{words31}
 use Rattle.fields.specs.Elements.{element_homomorphism}
 use Rattle.fields.specs.Inverse.{m31_representation}

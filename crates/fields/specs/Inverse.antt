@@ -4,8 +4,10 @@ use Rattle.std.proofs.Common.{sym, ◌∙◌, ap, lit<}
 use Rattle.std.proofs.Math.Nat as N
 use Rattle.algebra.specs.Power.{pow, pow-add, pow-one}
 use Rattle.algebra.specs.Field.{inv_unique}
-use Rattle.algebra.specs.M31.{P, P_pos, m31, m31_laws, m31_field, m31_fermat_one, element}
-use Rattle.algebra.specs.Tower.{cm31, qm31, two_plus_i, minus_one_nonsquare, two_plus_i_nonsquare}
+use Rattle.algebra.specs.M31.{P, P_pos, m31, m31_laws, element}
+use Rattle.algebra.proofs.M31.{m31_field, m31_fermat_one}
+use Rattle.algebra.specs.Tower.{cm31, qm31, two_plus_i}
+use Rattle.algebra.proofs.Tower.{minus_one_nonsquare, two_plus_i_nonsquare}
 use Rattle.algebra.specs.Homomorphism.{on_pair}
 use Rattle.fields.specs.Words.{mul_p, inv_p, neg_p, words31, complex_words, complex_inverse, quartic_words, quartic_inverse}
 use Rattle.fields.specs.Elements.{element_homomorphism, element_injective, element_pow, pow_p_below}

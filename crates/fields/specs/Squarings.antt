@@ -5,7 +5,8 @@ use Rattle.std.proofs.Math.Nat as N
 use Rattle.std.proofs.Math.Pow as W
 use Rattle.algebra.specs.Power.{pow, pow-add, pow-mul, pow-one, pow-two}
 use Rattle.algebra.specs.ZMod.{Z}
-use Rattle.algebra.specs.M31.{P, m31, m31_laws, m31_fermat, element}
+use Rattle.algebra.specs.M31.{P, m31, m31_laws, element}
+use Rattle.algebra.proofs.M31.{m31_fermat}
 use Rattle.fields.specs.Words.{pow_p}
 use Rattle.fields.specs.Elements.{element_pow, pow_p_below, pow_p_unique}
 

@@ -11,7 +11,8 @@ use Rattle.std.proofs.Math.Pow as W
 use Rattle.algebra.specs.Ring.{two}
 use Rattle.algebra.specs.Power.{pow}
 use Rattle.algebra.specs.ZMod.{Z, residue-val, val-residue, mul-mod-mod, val_below}
-use Rattle.algebra.specs.M31.{P, P_pos, m31, m31_laws, m31_field, element}
+use Rattle.algebra.specs.M31.{P, P_pos, m31, m31_laws, element}
+use Rattle.algebra.proofs.M31.{m31_field}
 use Rattle.algebra.specs.Homomorphism.{on_pair}
 use Rattle.fields.specs.Words.{mul_p, pow_p, words31}
 use Rattle.fields.specs.Elements.{element_homomorphism, element_injective, element_pow}

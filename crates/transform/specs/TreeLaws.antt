@@ -11,7 +11,8 @@ use Rattle.std.proofs.Math.Pow as W
 use Rattle.algebra.specs.Field as F
 use Rattle.algebra.specs.Polynomial.{◌:*◌, :-◌, v0, v1}
 use Rattle.algebra.specs.Circle.{double_x}
-use Rattle.algebra.specs.M31.{P, P_pos, m31, m31_laws, m31_field, element}
+use Rattle.algebra.specs.M31.{P, P_pos, m31, m31_laws, element}
+use Rattle.algebra.proofs.M31.{m31_field}
 use Rattle.fields.specs.Words.{mul_p, neg_p, words31}
 use Rattle.fields.specs.Elements.{element_homomorphism}
 use Rattle.fields.specs.Representation.{solve_words}

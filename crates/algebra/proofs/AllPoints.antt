@@ -6,9 +6,11 @@ use Rattle.std.proofs.Math.Pow as W
 use Rattle.algebra.specs.ZMod.{Z}
 use Rattle.algebra.specs.M31.{P, m31}
 use Rattle.algebra.specs.Circle.{zero_point, multiple, OnCircle, double_x}
-use Rattle.algebra.specs.Generator.{G, G_half, G_halved, G_order, G_equal}
-use Rattle.algebra.specs.Doubling.{iterate, double, doublings_31}
-use Rattle.algebra.specs.ZeroX.{doubled_multiple_x}
+use Rattle.algebra.specs.Generator.{G}
+use Rattle.algebra.proofs.Generator.{G_half, G_halved, G_order, G_equal}
+use Rattle.algebra.specs.Doubling.{iterate, double}
+use Rattle.algebra.proofs.Doubling.{doublings_31}
+use Rattle.algebra.proofs.ZeroX.{doubled_multiple_x}
 
 -- z is a multiple of 2^(31 - m) G
 abbrev MultipleOf : ℕ → Z P × Z P → Type 0

@@ -8,10 +8,12 @@ use Rattle.algebra.specs.Polynomial.{Expr, ◌:*◌, :-◌, exprs, given, v0, v1
 use Rattle.algebra.specs.Solver.{solve_from}
 use Rattle.algebra.specs.ZMod.{Z}
 use Rattle.algebra.specs.Field.{square_equal}
-use Rattle.algebra.specs.M31.{P, m31, m31_laws, m31_field}
+use Rattle.algebra.specs.M31.{P, m31, m31_laws}
+use Rattle.algebra.proofs.M31.{m31_field}
 use Rattle.algebra.specs.Tower.{cm31}
 use Rattle.algebra.specs.Circle.{multiple, squares, OnCircle, double_x, multiple-mul, on_plus, on_multiple, plus_self_x}
-use Rattle.algebra.specs.Generator.{G, G_on, G_quarter, G_antipode, G_halved}
+use Rattle.algebra.specs.Generator.{G}
+use Rattle.algebra.proofs.Generator.{G_on, G_quarter, G_antipode, G_halved}
 use Rattle.algebra.specs.Doubling.{iterate, double, doublings_multiple, doublings_x}
 
 -- z is an odd multiple of 2^(29 - m) G

@@ -12,7 +12,8 @@ use Rattle.algebra.specs.ZMod.{Z, residue, zadd, zmul, zneg, zmod, zmod_laws, re
 use Rattle.algebra.specs.Extension.{conjugate}
 use Rattle.algebra.specs.Prime.{Prime}
 use Rattle.algebra.specs.PrimeField.{one-add-pow, fermat}
-use Rattle.algebra.specs.M31.{P, P_pos, P_prime, m31, m31_laws}
+use Rattle.algebra.specs.M31.{P, P_pos, m31, m31_laws}
+use Rattle.algebra.proofs.M31.{P_prime}
 use Rattle.algebra.specs.Tower.{complex, complex_laws, cm31}
 use Rattle.algebra.specs.Circle.{plus-mul, multiple, multiple-pow, zero_point, OnCircle, plus-conjugate}
 
