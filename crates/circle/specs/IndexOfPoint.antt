@@ -1,12 +1,12 @@
 -- Every point of the circle has exactly one index below 2^31. Adding points adds indices modulo 2^31, and `from_point` and `to_point`
 -- undo one another.
-use Rattle.std.specs.Prelude.{◌≡◌, ℕ, ◌+◌, ◌%◌, ◌^◌, ◌<◌, ◌≤◌, Bool, true, false, ◌&&◌, ◌↔◌, ◌++◌, ◌==◌, refl}
-use Rattle.std.proofs.Common.{sym, ◌∙◌, ap, ap₂, arith, eqb-true, eq-eqb, lt-ltb}
+use Rattle.std.specs.Prelude.{◌≡◌, ℕ, ◌+◌, ◌%◌, ◌^◌, ◌<◌, ◌≤◌, true, false, ◌&&◌, ◌==◌}
+use Rattle.std.proofs.Common.{sym, ◌∙◌, ap, ap₂, arith, eqb-true, eq-eqb}
 use Rattle.std.proofs.Math.Bool.{not-eq-not, and-eq-true_iff}
 use Rattle.std.proofs.Math.Nat as N
 use Rattle.algebra.specs.M31.{P, m31, element}
 use Rattle.algebra.specs.Homomorphism.{on_pair}
-use Rattle.algebra.specs.Circle.{plus, squares, OnCircle}
+use Rattle.algebra.specs.Circle.{plus, OnCircle}
 use Rattle.algebra.specs.CircleHomomorphism.{to_squares}
 use Rattle.algebra.proofs.AllPoints.{all_multiples}
 use Rattle.fields.specs.Words.{words31}
@@ -14,7 +14,7 @@ use Rattle.fields.specs.Elements.{element_homomorphism}
 use Rattle.fields.specs.Search.{first}
 use Rattle.fields.specs.SearchLaws.{first_at}
 use Rattle.circle.specs.Index.{of_index, index_point, is_point_of, index_of}
-use Rattle.circle.specs.IndexPoints.{index_unique, index_on, index_add, same_point_same_index}
+use Rattle.circle.specs.IndexPoints.{index_unique, index_add, same_point_same_index}
 
 -- both words are below P, and x² + y² = 1 modulo P
 pub record CircleWords (p : ℕ × ℕ) : Type 0 where

@@ -1,0 +1,20 @@
+use Rattle.std.proofs.Common.{rules}
+use Rattle.circle.specs.Point.{add_answer}
+use Rattle.fields.specs.AnswerLaws.{answers}
+use Rattle.circle.specs.AnswerLaws.{points}
+use Rattle.circle.proofs.point.CirclePoint.add.Goals as goal
+
+pub returns-then-not-is_reduced : goal.returns-then-not-is_reduced
+unfolding add_answer
+returns-then-not-is_reduced c = search (answers, points, rules)
+
+pub returns-then-not-is_reduced-2 : goal.returns-then-not-is_reduced-2
+unfolding add_answer
+returns-then-not-is_reduced-2 c = search (answers, points, rules)
+
+pub add-requires : goal.add-requires
+add-requires c = search (answers, points, rules)
+
+pub returns : goal.returns
+unfolding add_answer
+returns c = search (answers, points, rules)

@@ -1,0 +1,16 @@
+use Rattle.std.proofs.Common.{rules}
+use Rattle.circle.specs.Point.{conjugate_answer}
+use Rattle.fields.specs.AnswerLaws.{answers}
+use Rattle.circle.specs.AnswerLaws.{points}
+use Rattle.circle.proofs.point.CirclePoint.conjugate.Goals as goal
+
+pub returns-then-not-is_reduced : goal.returns-then-not-is_reduced
+unfolding conjugate_answer
+returns-then-not-is_reduced c = search (answers, points, rules)
+
+pub conjugate-requires : goal.conjugate-requires
+conjugate-requires c = search (answers, points, rules)
+
+pub returns : goal.returns
+unfolding conjugate_answer
+returns c = search (answers, points, rules)

@@ -1,0 +1,16 @@
+use Rattle.std.proofs.Common.{rules}
+use Rattle.circle.specs.SecurePoint.{antipode_answer}
+use Rattle.fields.specs.AnswerLaws.{answers}
+use Rattle.circle.specs.AnswerLaws.{securePoints}
+use Rattle.circle.proofs.secure_point.SecureCirclePoint.antipode.Goals as goal
+
+pub returns-then-not-is_reduced : goal.returns-then-not-is_reduced
+unfolding antipode_answer
+returns-then-not-is_reduced c = search (answers, securePoints, rules)
+
+pub antipode-requires : goal.antipode-requires
+antipode-requires c = search (answers, securePoints, rules)
+
+pub returns : goal.returns
+unfolding antipode_answer
+returns c = search (answers, securePoints, rules)

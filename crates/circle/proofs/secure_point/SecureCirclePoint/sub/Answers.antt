@@ -1,0 +1,27 @@
+use Rattle.std.proofs.Common.{ap, ◌∙◌, rules}
+use Rattle.algebra.specs.Circle.{plus}
+use Rattle.fields.specs.Words.{quartic_words}
+use Rattle.circle.specs.SecurePoint.{point_of}
+use Rattle.circle.specs.SecurePoint.{sub_answer}
+use Rattle.fields.specs.AnswerLaws.{answers}
+use Rattle.circle.specs.AnswerLaws.{securePoints}
+use Rattle.circle.proofs.secure_point.SecureCirclePoint.sub.Goals as goal
+
+pub returns-then-not-is_reduced : goal.returns-then-not-is_reduced
+unfolding sub_answer
+returns-then-not-is_reduced c = search (answers, securePoints, rules)
+
+pub returns-then-not-is_reduced-2 : goal.returns-then-not-is_reduced-2
+unfolding sub_answer
+returns-then-not-is_reduced-2 c = search (answers, securePoints, rules)
+
+pub conjugate-requires : goal.conjugate-requires
+conjugate-requires c = search (answers, securePoints, rules)
+
+pub add-requires : goal.add-requires
+add-requires c = search (answers, securePoints, rules)
+
+pub returns : goal.returns
+unfolding sub_answer
+returns c = let e = c.add.ensures.0 ∙ ap (plus quartic_words (point_of c.args.self)) c.conjugate.ensures.0 in
+    search (answers, securePoints, rules)
