@@ -3,8 +3,7 @@ use mathlib.Core.Path.{◌≡◌, refl, ◌∙◌}
 use lib.Dec.{lit<}
 use Rattle.orders.specs.BitReverse.{reverse_bits}
 use Rattle.orders.proofs.Masks.{low_halves, step, reversed_fields, fields_step, bits_of, one_field, product_fits, step_fits}
-use Rattle.orders.proofs.utils.inner.reverse_bits.Statement.{statement}
-use Rattle.orders.proofs.utils.inner.reverse_bits.Tie as tie
+use Rattle.orders.proofs.utils.inner.reverse_bits.Goals as goal
 
 abbrev mask1 : ℕ
 mask1 = 0x5555_5555_5555_5555
@@ -35,59 +34,41 @@ reversed-law x h =
     let e64 : step mask32 32 (step mask16 16 (step mask8 8 (step mask4 4 (step mask2 2 (step mask1 1 x))))) ≡ reversed_fields 64 1 x = fields_step mask32 32 1 (step mask16 16 (step mask8 8 (step mask4 4 (step mask2 2 (step mask1 1 x))))) x refl e32 in
     e64 ∙ one_field x
 
-mul-a : tie.Need-overflow-mul-a
-mul-a c = product_fits mask1 1 c.args.x (lit< tt)
+pub overflow_mul-a : goal.overflow_mul-a
+overflow_mul-a c = product_fits mask1 1 c.args.x (lit< tt)
 
-add_a : tie.Need-overflow-add-a
-add_a c = step_fits mask1 1 c.args.x (lit< tt)
+pub overflow_add-a : goal.overflow_add-a
+overflow_add-a c = step_fits mask1 1 c.args.x (lit< tt)
 
-mul-b : tie.Need-overflow-mul-b
-mul-b c = product_fits mask2 2 (step mask1 1 c.args.x) (lit< tt)
+pub overflow_mul-b : goal.overflow_mul-b
+overflow_mul-b c = product_fits mask2 2 (step mask1 1 c.args.x) (lit< tt)
 
-add-b : tie.Need-overflow-add-b
-add-b c = step_fits mask2 2 (step mask1 1 c.args.x) (lit< tt)
+pub overflow_add-b : goal.overflow_add-b
+overflow_add-b c = step_fits mask2 2 (step mask1 1 c.args.x) (lit< tt)
 
-mul-c : tie.Need-overflow-mul-c
-mul-c c = product_fits mask4 4 (step mask2 2 (step mask1 1 c.args.x)) (lit< tt)
+pub overflow_mul-c : goal.overflow_mul-c
+overflow_mul-c c = product_fits mask4 4 (step mask2 2 (step mask1 1 c.args.x)) (lit< tt)
 
-add-c : tie.Need-overflow-add-c
-add-c c = step_fits mask4 4 (step mask2 2 (step mask1 1 c.args.x)) (lit< tt)
+pub overflow_add-c : goal.overflow_add-c
+overflow_add-c c = step_fits mask4 4 (step mask2 2 (step mask1 1 c.args.x)) (lit< tt)
 
-mul-d : tie.Need-overflow-mul-d
-mul-d c = product_fits mask8 8 (step mask4 4 (step mask2 2 (step mask1 1 c.args.x))) (lit< tt)
+pub overflow_mul-d : goal.overflow_mul-d
+overflow_mul-d c = product_fits mask8 8 (step mask4 4 (step mask2 2 (step mask1 1 c.args.x))) (lit< tt)
 
-add-d : tie.Need-overflow-add-d
-add-d c = step_fits mask8 8 (step mask4 4 (step mask2 2 (step mask1 1 c.args.x))) (lit< tt)
+pub overflow_add-d : goal.overflow_add-d
+overflow_add-d c = step_fits mask8 8 (step mask4 4 (step mask2 2 (step mask1 1 c.args.x))) (lit< tt)
 
-mul-e : tie.Need-overflow-mul-e
-mul-e c = product_fits mask16 16 (step mask8 8 (step mask4 4 (step mask2 2 (step mask1 1 c.args.x)))) (lit< tt)
+pub overflow_mul-e : goal.overflow_mul-e
+overflow_mul-e c = product_fits mask16 16 (step mask8 8 (step mask4 4 (step mask2 2 (step mask1 1 c.args.x)))) (lit< tt)
 
-add-e : tie.Need-overflow-add-e
-add-e c = step_fits mask16 16 (step mask8 8 (step mask4 4 (step mask2 2 (step mask1 1 c.args.x)))) (lit< tt)
+pub overflow_add-e : goal.overflow_add-e
+overflow_add-e c = step_fits mask16 16 (step mask8 8 (step mask4 4 (step mask2 2 (step mask1 1 c.args.x)))) (lit< tt)
 
-mul-result : tie.Need-overflow-mul-result
-mul-result c = product_fits mask32 32 (step mask16 16 (step mask8 8 (step mask4 4 (step mask2 2 (step mask1 1 c.args.x))))) (lit< tt)
+pub overflow_mul-result : goal.overflow_mul-result
+overflow_mul-result c = product_fits mask32 32 (step mask16 16 (step mask8 8 (step mask4 4 (step mask2 2 (step mask1 1 c.args.x))))) (lit< tt)
 
-add-result : tie.Need-overflow-add-result
-add-result c = step_fits mask32 32 (step mask16 16 (step mask8 8 (step mask4 4 (step mask2 2 (step mask1 1 c.args.x))))) (lit< tt)
+pub overflow_add-result : goal.overflow_add-result
+overflow_add-result c = step_fits mask32 32 (step mask16 16 (step mask8 8 (step mask4 4 (step mask2 2 (step mask1 1 c.args.x))))) (lit< tt)
 
-returns : tie.Need-returns
+pub returns : goal.returns
 returns c = reversed-law c.args.x c.ranges.x.fits
-
-pub reverse-bits-spec : {M : Type 1} → statement M
-reverse-bits-spec =
-    tie.close
-    (tie.spec
-    mul-a
-    add_a
-    mul-b
-    add-b
-    mul-c
-    add-c
-    mul-d
-    add-d
-    mul-e
-    add-e
-    mul-result
-    add-result
-    returns)
