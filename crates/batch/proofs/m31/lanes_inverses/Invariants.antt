@@ -1,0 +1,10 @@
+use Rattle.batch.specs.Passes.{m31_units, lane_units}
+use Rattle.batch.specs.Lanes.{m31_lanes}
+use Rattle.batch.proofs.Montgomery.{Down}
+use Rattle.batch.proofs.m31.lanes_inverses.Given as goal
+
+abbrev pub invariant-loop-k : goal.invariant-loop-k
+invariant-loop-k l = Down (lane_units m31_units) l.column l.dst l.k (m31_lanes l.rest) l.multiplications
+
+abbrev pub decreases-loop-k : goal.decreases-loop-k
+decreases-loop-k l = l.k

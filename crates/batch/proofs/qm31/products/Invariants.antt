@@ -1,0 +1,11 @@
+use Rattle.std.proofs.Common.{◌-◌}
+use Rattle.batch.specs.Passes.{qm31_units}
+use Rattle.fields.specs.QM31.{pairs_of}
+use Rattle.batch.proofs.Montgomery.{Up}
+use Rattle.batch.proofs.qm31.products.Given as goal
+
+abbrev pub invariant-loop-k : goal.invariant-loop-k
+invariant-loop-k l = Up qm31_units 0 l.column l.dst l.n l.k (pairs_of l.whole) l.multiplications
+
+abbrev pub decreases-loop-k : goal.decreases-loop-k
+decreases-loop-k l = l.n - l.k
