@@ -13,7 +13,7 @@ use Rattle.circle.specs.IndexPoints.{index_reduce, index_add, index_quarter, ind
 use Rattle.orders.specs.BitReverse.{reverse_bits, reversed_below, reversed_even, reversed_odd}
 use Rattle.orders.specs.BitReverse.{reversed_first_half, reversed_second_half, reversed_parts}
 use Rattle.orders.specs.Orders.{bit_reverse_index}
-use Rattle.orders.specs.OrderLaws.{index_from_one}
+use Rattle.orders.proofs.OrderLaws.{index_from_one}
 use Rattle.domains.specs.Listing.{unit, domain_index}
 use Rattle.domains.specs.PointSet.{two_halves, unit-half, half_bound, domain_first, domain_second}
 

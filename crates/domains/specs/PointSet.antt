@@ -23,7 +23,7 @@ use Rattle.circle.specs.Index.{index_point, neg_index}
 use Rattle.circle.specs.IndexPoints.{to_index_point, index_below, index_unique, index_equal, index_reduce}
 use Rattle.circle.specs.LogOrder.{doubled_x_below, to_doubled_x}
 use Rattle.orders.specs.Orders.{to_domain, to_coset}
-use Rattle.orders.specs.OrderLaws.{by_parity, even_to_domain, odd_to_domain, to_domain_below, to_coset_below, to_domain-to_coset}
+use Rattle.orders.proofs.OrderLaws.{by_parity, even_to_domain, odd_to_domain, to_domain_below, to_coset_below, to_domain-to_coset}
 use Rattle.domains.specs.Listing.{unit, coset_index, half_indices, domain_indices, domain_index}
 
 -- `point_set_lem` proves it for every n from 1 to 30

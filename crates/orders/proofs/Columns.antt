@@ -10,9 +10,9 @@ use lib.Pow as W
 use Rattle.orders.specs.BitReverse.{reverse_bits, reversed_below, reversed_back, reversed_dropped, reversed_parts}
 use Rattle.orders.specs.Bounds.{BlockRoom, PairRoom}
 use Rattle.orders.specs.Orders.{bit_reverse_index, reordered, to_domain, to_coset, coset_bit_reversed}
-use Rattle.orders.specs.OrderLaws.{index_reversed, is_reordered, even_to_domain, odd_to_domain, first_to_coset, second_to_coset}
-use Rattle.orders.specs.OrderLaws.{to_coset_below, to_domain-to_coset, coset_bits_even}
-use Rattle.orders.specs.OrderLaws.{coset_bits_odd, coset_bits_below, coset_bits_back}
+use Rattle.orders.proofs.OrderLaws.{index_reversed, is_reordered, even_to_domain, odd_to_domain, first_to_coset, second_to_coset}
+use Rattle.orders.proofs.OrderLaws.{to_coset_below, to_domain-to_coset, coset_bits_even}
+use Rattle.orders.proofs.OrderLaws.{coset_bits_odd, coset_bits_below, coset_bits_back}
 use Rattle.orders.specs.Swaps.{swapped_if_before, row_swapped, block_swapped, pair_swapped}
 use Rattle.orders.proofs.Turns.{Visits, in_order, Swapped, none_swapped, all_swapped, swapped_next}
 use Rattle.orders.proofs.Turns.{Copied, none_copied, copied, all_copied}

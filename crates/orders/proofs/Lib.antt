@@ -4,3 +4,4 @@ pub mod Turns
 pub mod Columns
 pub mod Offsets
 pub mod Accepted
+pub mod OrderLaws

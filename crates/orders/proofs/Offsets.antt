@@ -12,7 +12,7 @@ use Rattle.fields.specs.LogSizeLaws.{log_size_fits_lem}
 use Rattle.orders.specs.Bounds.{Offset}
 use Rattle.orders.specs.BitReverse.{reverse_bits, reversed_below}
 use Rattle.orders.specs.Orders.{bit_reverse_index, is_smaller_domain, moved, offset_element, offset_index}
-use Rattle.orders.specs.OrderLaws.{index_from_one}
+use Rattle.orders.proofs.OrderLaws.{index_from_one}
 
 pub moved_below : (back : Bool) (size p s : ℕ) → 0 < size → moved back size p s < size
 moved_below true size p s h = N.mod-lt (p + (size - s % size)) h

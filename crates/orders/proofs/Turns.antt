@@ -9,7 +9,7 @@ use borrow.Author.Tests.{lt-ltb, le-ltb}
 use lib.ListN.{length, get_or, set, drop, length-set, length-append, length-drop, get_or-append}
 use lib.Seq.{get_or-set_same, get_or-set_other, ext_get_or, get_or-append-add, get_or-drop}
 use Rattle.orders.specs.Orders.{reordered}
-use Rattle.orders.specs.OrderLaws.{reordered-length, reordered-at, is_reordered}
+use Rattle.orders.proofs.OrderLaws.{reordered-length, reordered-at, is_reordered}
 use Rattle.orders.specs.Swaps.{swapped, swapped_if_before}
 
 -- each of so many places has one turn, and no two have the same

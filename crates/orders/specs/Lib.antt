@@ -1,7 +1,4 @@
--- definitions
 pub mod BitReverse
 pub mod Orders
 pub mod Swaps
 pub mod Bounds
--- laws
-pub mod OrderLaws

@@ -2,7 +2,7 @@ use borrow.Author.Rules.{rules}
 use Prim.Native.Nat.{◌/◌, ◌-◌, ◌^◌, ℕ}
 use mathlib.Core.Path.{sym, ◌∙◌, ap}
 use Rattle.orders.specs.Orders.{bit_reverse_index}
-use Rattle.orders.specs.OrderLaws.{index_from_one}
+use Rattle.orders.proofs.OrderLaws.{index_from_one}
 use Rattle.orders.proofs.Shifts.{reverse-shifted}
 use Rattle.orders.proofs.utils.inner.bit_reverse_index.Goals as goal
 
