@@ -1,0 +1,18 @@
+use borrow.Author.Rules.{rules}
+use Rattle.fields.specs.AnswerLaws.{answers}
+use Rattle.domains.specs.Coset.{shift_answer}
+use Rattle.fields.specs.CheckLaws.{at_refused}
+use Rattle.domains.specs.Record.{check_with_index}
+use Rattle.domains.proofs.Records.{with_index_fits, records}
+use Rattle.domains.proofs.coset.Coset.shift.Goals as goal
+
+pub returns-in-Refused : goal.returns-in-Refused
+unfolding shift_answer
+returns-in-Refused c = at_refused (check_with_index _ _) _ _ _ _ c.check_with_index-record.ensures c.in-Refused.is
+
+pub shift-requires : goal.shift-requires
+shift-requires c = let f = with_index_fits _ _ _ c.check_with_index-record.ensures c.in_default.is in search rules
+
+pub returns : goal.returns
+unfolding shift_answer
+returns c = search (answers, records, rules)

@@ -1,0 +1,15 @@
+use borrow.Author.Rules.{rules}
+use Rattle.fields.specs.AnswerLaws.{answers}
+use Rattle.domains.specs.Domain.{new_answer}
+use Rattle.fields.specs.CheckLaws.{at_refused}
+use Rattle.domains.specs.Record.{check}
+use Rattle.domains.proofs.Records.{records}
+use Rattle.domains.proofs.domain.CircleDomain.new.Goals as goal
+
+pub returns-in-Refused : goal.returns-in-Refused
+unfolding new_answer
+returns-in-Refused c = at_refused (check _) _ _ _ _ c.check-record.ensures c.in-Refused.is
+
+pub returns : goal.returns
+unfolding new_answer
+returns c = search (answers, records, rules)
