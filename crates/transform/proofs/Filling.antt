@@ -15,8 +15,9 @@ use Rattle.fields.specs.Words.{add_p, sub_p, mul_p, words31}
 use Rattle.fields.specs.Inverse.{m31_representation}
 use Rattle.circle.specs.Index.{index_point}
 use Rattle.circle.specs.IndexPoints.{index_below}
-use Rattle.domains.specs.BitReversed.{half_index, half_point, half_further, half_index_start, half_add_quarter}
-use Rattle.domains.specs.Doubled.{half_double_x}
+use Rattle.domains.specs.BitReversed.{half_index, half_point}
+use Rattle.domains.proofs.BitReversed.{half_further, half_index_start, half_add_quarter}
+use Rattle.domains.proofs.Doubled.{half_double_x}
 use Rattle.circle.specs.Table.{point_at}
 use Rattle.transform.specs.Tree.{LinesFrom, LineTree, Points, Extended, Doubled}
 use Rattle.transform.specs.Twiddles.{even_or_odd}

@@ -12,8 +12,9 @@ use Rattle.fields.specs.Representation.{solve_words}
 use Rattle.fields.specs.Inverse.{m31_representation}
 use Rattle.circle.specs.Index.{index_point}
 use Rattle.circle.specs.IndexPoints.{index_below}
-use Rattle.domains.specs.BitReversed.{half_index, half_point, half_index_start, half_neighbour, half_point-one}
-use Rattle.domains.specs.Doubled.{half_two}
+use Rattle.domains.specs.BitReversed.{half_index, half_point}
+use Rattle.domains.proofs.BitReversed.{half_index_start, half_neighbour, half_point-one}
+use Rattle.domains.proofs.Doubled.{half_two}
 use Rattle.column.specs.Butterflies.{butterflies, evaluate_block, inverse_butterflies, interpolate_block, scaled}
 use Rattle.column.specs.Tree.{HoldsTwiddles}
 use Rattle.transform.specs.Transform.{values_of, Column}

@@ -18,7 +18,7 @@ use Rattle.fields.specs.Words.{mul_p, pow_p, words31}
 use Rattle.fields.specs.Elements.{element_homomorphism, element_injective, element_pow}
 use Rattle.circle.specs.IndexPoints.{index_below}
 use Rattle.domains.specs.BitReversed.{half_index}
-use Rattle.domains.specs.Doubled.{half_y_nonzero, half_x_nonzero}
+use Rattle.domains.proofs.Doubled.{half_y_nonzero, half_x_nonzero}
 use Rattle.column.specs.Column.{sum, combination, values}
 use Rattle.column.specs.Butterflies.{evaluate_block, interpolate_block, scaled}
 use Rattle.column.specs.Inverse.{Inverses}

@@ -40,7 +40,7 @@ use Rattle.domains.specs.Record.{check, check_two}
 use Rattle.domains.specs.Coset.{coset_of, subgroup_answer, doubled, double_answer, repeated_double_answer, is_doubling_of_answer}
 use Rattle.domains.specs.RecordLaws.{fits_hold, two_hold}
 use Rattle.domains.specs.CosetLaws.{made_fits, made_doubled, made_doubling}
-use Rattle.domains.specs.CanonicDomain.{canonic_domain}
+use Rattle.domains.proofs.CanonicDomain.{canonic_domain}
 use Rattle.domains.specs.Domain.{of_half, index_at_answer, is_canonic_answer}
 use Rattle.domains.specs.Canonic.{canonic_of, half_of, circle_domain_answer}
 use Rattle.domains.specs.Canonic as Canonic

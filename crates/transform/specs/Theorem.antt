@@ -8,7 +8,8 @@ use Rattle.std.proofs.lemmas.List.{length-map}
 use Rattle.algebra.specs.M31.{m31}
 use Rattle.fields.specs.declared.answer.WriteAnswer.{WriteAnswer}
 use Rattle.fields.specs.declared.answer.WriteAnswer.TheVariants.{Written}
-use Rattle.domains.specs.PointSet.{PointSet, point_set_lem}
+use Rattle.domains.specs.PointSet.{PointSet}
+use Rattle.domains.proofs.PointSet.{point_set_lem}
 use Rattle.column.specs.Column.{values}
 use Rattle.column.specs.OneList.{OneList}
 use Rattle.transform.specs.Transform.{values_of, Column, Coefficients, transform_answer, evaluate_exit, InterpolateExit}

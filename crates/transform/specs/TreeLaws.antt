@@ -18,8 +18,9 @@ use Rattle.fields.specs.Elements.{element_homomorphism}
 use Rattle.fields.specs.Representation.{solve_words}
 use Rattle.fields.specs.Inverse.{m31_representation}
 use Rattle.circle.specs.IndexPoints.{index_below}
-use Rattle.domains.specs.BitReversed.{half_index, half_point, half_neighbour, half_add_quarter, half_point-one}
-use Rattle.domains.specs.Doubled.{half_double_x, half_double_y, half_two}
+use Rattle.domains.specs.BitReversed.{half_index, half_point}
+use Rattle.domains.proofs.BitReversed.{half_neighbour, half_add_quarter, half_point-one}
+use Rattle.domains.proofs.Doubled.{half_double_x, half_double_y, half_two}
 use Rattle.column.specs.Tree.{HoldsTwiddles}
 use Rattle.transform.specs.Tree.{Words, LineTree, circle_twiddle, node_twiddle, beside, Invertible, InvertedTree}
 use Rattle.transform.specs.Twiddles.{twiddle, even_or_odd}

@@ -10,8 +10,9 @@ use native.Mathlib.Omega.{arith}
 use Rattle.algebra.specs.Circle.{double_x}
 use Rattle.algebra.specs.Doubling.{iterate, iterate-suc}
 use Rattle.fields.specs.Words.{neg_p, words31}
-use Rattle.domains.specs.BitReversed.{half_point, position_even, position_odd, half_neighbour_x}
-use Rattle.domains.specs.Doubled.{half_double_x}
+use Rattle.domains.specs.BitReversed.{half_point}
+use Rattle.domains.proofs.BitReversed.{position_even, position_odd, half_neighbour_x}
+use Rattle.domains.proofs.Doubled.{half_double_x}
 use Rattle.column.specs.Column.{factor}
 use Rattle.column.specs.Butterflies.{on_the_way}
 use Rattle.column.specs.OneList.{Twiddles}
