@@ -1,0 +1,10 @@
+use Rattle.taripomune.specs.Reply.{array_reply}
+use Rattle.taripomune.proofs.reply.array_reply.Goals as goal
+
+pub returns-in-Value : goal.returns-in-Value
+unfolding array_reply
+returns-in-Value c = rw c.in-Value.is
+
+pub returns-in-Refused : goal.returns-in-Refused
+unfolding array_reply
+returns-in-Refused c = rw (c.in-Refused.is, c.number.ensures, c.position.ensures)
