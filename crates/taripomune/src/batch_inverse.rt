@@ -6,8 +6,7 @@ ghost use Rattle.taripomune.specs.BatchReply.{batch_reply};
 use crate::batch_reply::{BatchReply, batch_reply};
 use batch::{Field, batch_inverse_chunked, batch_inverse_in_place};
 
-#[unsafe(no_mangle)]
-pub extern "C" fn tari_m31_batch_inverse_in_place(column: &[u32], dst: &mut [u32]) -> BatchReply
+pub fn tari_m31_batch_inverse_in_place(column: &[u32], dst: &mut [u32]) -> BatchReply
     ensures { (result ≡ batch_reply (in_place_answer m31_column column.now (length dst.old)))
         × (dst.new ≡ batch_exit m31_column (in_place_answer m31_column column.now (length dst.old))
         column.now dst.old) }
@@ -15,8 +14,7 @@ pub extern "C" fn tari_m31_batch_inverse_in_place(column: &[u32], dst: &mut [u32
     batch_reply(batch_inverse_in_place(Field::M31, column, dst))
 }
 
-#[unsafe(no_mangle)]
-pub extern "C" fn tari_m31_batch_inverse_chunked(
+pub fn tari_m31_batch_inverse_chunked(
     column: &[u32],
     dst: &mut [u32],
     chunk_size: u64,
@@ -28,8 +26,7 @@ pub extern "C" fn tari_m31_batch_inverse_chunked(
     batch_reply(batch_inverse_chunked(Field::M31, column, dst, chunk_size as usize))
 }
 
-#[unsafe(no_mangle)]
-pub extern "C" fn tari_cm31_batch_inverse_in_place(column: &[u32], dst: &mut [u32]) -> BatchReply
+pub fn tari_cm31_batch_inverse_in_place(column: &[u32], dst: &mut [u32]) -> BatchReply
     ensures { (result ≡ batch_reply (in_place_answer cm31_column column.now (length dst.old)))
         × (dst.new ≡ batch_exit cm31_column (in_place_answer cm31_column column.now (length dst.old))
         column.now dst.old) }
@@ -37,8 +34,7 @@ pub extern "C" fn tari_cm31_batch_inverse_in_place(column: &[u32], dst: &mut [u3
     batch_reply(batch_inverse_in_place(Field::CM31, column, dst))
 }
 
-#[unsafe(no_mangle)]
-pub extern "C" fn tari_cm31_batch_inverse_chunked(
+pub fn tari_cm31_batch_inverse_chunked(
     column: &[u32],
     dst: &mut [u32],
     chunk_size: u64,
@@ -50,8 +46,7 @@ pub extern "C" fn tari_cm31_batch_inverse_chunked(
     batch_reply(batch_inverse_chunked(Field::CM31, column, dst, chunk_size as usize))
 }
 
-#[unsafe(no_mangle)]
-pub extern "C" fn tari_qm31_batch_inverse_in_place(column: &[u32], dst: &mut [u32]) -> BatchReply
+pub fn tari_qm31_batch_inverse_in_place(column: &[u32], dst: &mut [u32]) -> BatchReply
     ensures { (result ≡ batch_reply (in_place_answer qm31_column column.now (length dst.old)))
         × (dst.new ≡ batch_exit qm31_column (in_place_answer qm31_column column.now (length dst.old))
         column.now dst.old) }
@@ -59,8 +54,7 @@ pub extern "C" fn tari_qm31_batch_inverse_in_place(column: &[u32], dst: &mut [u3
     batch_reply(batch_inverse_in_place(Field::QM31, column, dst))
 }
 
-#[unsafe(no_mangle)]
-pub extern "C" fn tari_qm31_batch_inverse_chunked(
+pub fn tari_qm31_batch_inverse_chunked(
     column: &[u32],
     dst: &mut [u32],
     chunk_size: u64,

@@ -13,22 +13,19 @@ use crate::reply::{
 };
 use domains::canonic::CanonicCoset;
 
-#[unsafe(no_mangle)]
-pub extern "C" fn tari_canonic_coset_try_new(log_size: u32) -> CosetReply
+pub fn tari_canonic_coset_try_new(log_size: u32) -> CosetReply
     ensures { result ≡ canonic_coset_reply (try_new_answer log_size) }
 {
     canonic_coset_reply(CanonicCoset::try_new(log_size))
 }
 
-#[unsafe(no_mangle)]
-pub extern "C" fn tari_canonic_coset_new(log_size: u32) -> CosetReply
+pub fn tari_canonic_coset_new(log_size: u32) -> CosetReply
     ensures { result ≡ canonic_coset_reply (try_new_answer log_size) }
 {
     canonic_coset_reply(CanonicCoset::new(log_size))
 }
 
-#[unsafe(no_mangle)]
-pub extern "C" fn tari_canonic_coset_coset(
+pub fn tari_canonic_coset_coset(
     initial_index: u64,
     initial_x: u32,
     initial_y: u32,
@@ -52,8 +49,7 @@ pub extern "C" fn tari_canonic_coset_coset(
     coset_reply(c.coset())
 }
 
-#[unsafe(no_mangle)]
-pub extern "C" fn tari_canonic_coset_half_coset(
+pub fn tari_canonic_coset_half_coset(
     initial_index: u64,
     initial_x: u32,
     initial_y: u32,
@@ -77,8 +73,7 @@ pub extern "C" fn tari_canonic_coset_half_coset(
     coset_reply(c.half_coset())
 }
 
-#[unsafe(no_mangle)]
-pub extern "C" fn tari_canonic_coset_circle_domain(
+pub fn tari_canonic_coset_circle_domain(
     initial_index: u64,
     initial_x: u32,
     initial_y: u32,
@@ -102,8 +97,7 @@ pub extern "C" fn tari_canonic_coset_circle_domain(
     circle_domain_reply(c.circle_domain())
 }
 
-#[unsafe(no_mangle)]
-pub extern "C" fn tari_canonic_coset_log_size(
+pub fn tari_canonic_coset_log_size(
     initial_index: u64,
     initial_x: u32,
     initial_y: u32,
@@ -127,8 +121,7 @@ pub extern "C" fn tari_canonic_coset_log_size(
     u32_reply(c.log_size())
 }
 
-#[unsafe(no_mangle)]
-pub extern "C" fn tari_canonic_coset_size(
+pub fn tari_canonic_coset_size(
     initial_index: u64,
     initial_x: u32,
     initial_y: u32,
@@ -152,8 +145,7 @@ pub extern "C" fn tari_canonic_coset_size(
     u64_reply(c.size())
 }
 
-#[unsafe(no_mangle)]
-pub extern "C" fn tari_canonic_coset_initial_index(
+pub fn tari_canonic_coset_initial_index(
     initial_index: u64,
     initial_x: u32,
     initial_y: u32,
@@ -177,8 +169,7 @@ pub extern "C" fn tari_canonic_coset_initial_index(
     index_reply(c.initial_index())
 }
 
-#[unsafe(no_mangle)]
-pub extern "C" fn tari_canonic_coset_step_size(
+pub fn tari_canonic_coset_step_size(
     initial_index: u64,
     initial_x: u32,
     initial_y: u32,
@@ -202,8 +193,7 @@ pub extern "C" fn tari_canonic_coset_step_size(
     index_reply(c.step_size())
 }
 
-#[unsafe(no_mangle)]
-pub extern "C" fn tari_canonic_coset_step(
+pub fn tari_canonic_coset_step(
     initial_index: u64,
     initial_x: u32,
     initial_y: u32,
@@ -227,8 +217,7 @@ pub extern "C" fn tari_canonic_coset_step(
     point_reply(c.step())
 }
 
-#[unsafe(no_mangle)]
-pub extern "C" fn tari_canonic_coset_index_at(
+pub fn tari_canonic_coset_index_at(
     initial_index: u64,
     initial_x: u32,
     initial_y: u32,
@@ -253,8 +242,7 @@ pub extern "C" fn tari_canonic_coset_index_at(
     index_reply(c.index_at(i))
 }
 
-#[unsafe(no_mangle)]
-pub extern "C" fn tari_canonic_coset_at(
+pub fn tari_canonic_coset_at(
     initial_index: u64,
     initial_x: u32,
     initial_y: u32,

@@ -20,8 +20,7 @@ use crate::reply::{
 use circle::index::CirclePointIndex;
 use domains::domain::CircleDomain;
 
-#[unsafe(no_mangle)]
-pub extern "C" fn tari_circle_domain_new(
+pub fn tari_circle_domain_new(
     initial_index: u64,
     initial_x: u32,
     initial_y: u32,
@@ -45,8 +44,7 @@ pub extern "C" fn tari_circle_domain_new(
     circle_domain_reply(CircleDomain::new(half_coset))
 }
 
-#[unsafe(no_mangle)]
-pub extern "C" fn tari_circle_domain_iter_indices(
+pub fn tari_circle_domain_iter_indices(
     initial_index: u64,
     initial_x: u32,
     initial_y: u32,
@@ -70,8 +68,7 @@ pub extern "C" fn tari_circle_domain_iter_indices(
     index_iterator_reply(d.iter_indices())
 }
 
-#[unsafe(no_mangle)]
-pub extern "C" fn tari_circle_domain_size(
+pub fn tari_circle_domain_size(
     initial_index: u64,
     initial_x: u32,
     initial_y: u32,
@@ -95,8 +92,7 @@ pub extern "C" fn tari_circle_domain_size(
     u64_reply(d.size())
 }
 
-#[unsafe(no_mangle)]
-pub extern "C" fn tari_circle_domain_log_size(
+pub fn tari_circle_domain_log_size(
     initial_index: u64,
     initial_x: u32,
     initial_y: u32,
@@ -120,8 +116,7 @@ pub extern "C" fn tari_circle_domain_log_size(
     u32_reply(d.log_size())
 }
 
-#[unsafe(no_mangle)]
-pub extern "C" fn tari_circle_domain_at(
+pub fn tari_circle_domain_at(
     initial_index: u64,
     initial_x: u32,
     initial_y: u32,
@@ -146,8 +141,7 @@ pub extern "C" fn tari_circle_domain_at(
     point_reply(d.at(i))
 }
 
-#[unsafe(no_mangle)]
-pub extern "C" fn tari_circle_domain_index_at(
+pub fn tari_circle_domain_index_at(
     initial_index: u64,
     initial_x: u32,
     initial_y: u32,
@@ -172,8 +166,7 @@ pub extern "C" fn tari_circle_domain_index_at(
     index_reply(d.index_at(i))
 }
 
-#[unsafe(no_mangle)]
-pub extern "C" fn tari_circle_domain_is_canonic(
+pub fn tari_circle_domain_is_canonic(
     initial_index: u64,
     initial_x: u32,
     initial_y: u32,
@@ -197,8 +190,7 @@ pub extern "C" fn tari_circle_domain_is_canonic(
     bool_reply(d.is_canonic())
 }
 
-#[unsafe(no_mangle)]
-pub extern "C" fn tari_circle_domain_split(
+pub fn tari_circle_domain_split(
     initial_index: u64,
     initial_x: u32,
     initial_y: u32,
@@ -230,8 +222,7 @@ pub extern "C" fn tari_circle_domain_split(
     circle_domain_reply(d.split(log_parts, shifts))
 }
 
-#[unsafe(no_mangle)]
-pub extern "C" fn tari_circle_domain_shift(
+pub fn tari_circle_domain_shift(
     initial_index: u64,
     initial_x: u32,
     initial_y: u32,
@@ -257,8 +248,7 @@ pub extern "C" fn tari_circle_domain_shift(
     circle_domain_reply(d.shift(CirclePointIndex(shift)))
 }
 
-#[unsafe(no_mangle)]
-pub extern "C" fn tari_circle_domain_index_iterator_next(
+pub fn tari_circle_domain_index_iterator_next(
     first_cur: u64,
     first_step: u64,
     first_remaining: u64,

@@ -6,24 +6,14 @@ ghost use Rattle.taripomune.specs.Reply.{write_reply};
 use crate::reply::{WriteReply, write_reply};
 use transform::{evaluate, interpolate};
 
-#[unsafe(no_mangle)]
-pub extern "C" fn tari_evaluate(
-    log_size: u32,
-    column: &mut [u32],
-    scratch: &mut [u32],
-) -> WriteReply
+pub fn tari_evaluate(log_size: u32, column: &mut [u32], scratch: &mut [u32]) -> WriteReply
     ensures { (result ≡ write_reply (transform_answer log_size column.old (length scratch.old)))
         × Evaluated log_size column.old scratch.old column.new scratch.new }
 {
     write_reply(evaluate(log_size, column, scratch))
 }
 
-#[unsafe(no_mangle)]
-pub extern "C" fn tari_interpolate(
-    log_size: u32,
-    column: &mut [u32],
-    scratch: &mut [u32],
-) -> WriteReply
+pub fn tari_interpolate(log_size: u32, column: &mut [u32], scratch: &mut [u32]) -> WriteReply
     ensures { (result ≡ write_reply (transform_answer log_size column.old (length scratch.old)))
         × Interpolated log_size column.old scratch.old column.new scratch.new }
 {

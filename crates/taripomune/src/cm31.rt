@@ -13,176 +13,151 @@ use crate::reply::{BoolReply, CM31Reply, M31Reply, bool_reply, cm31_reply, m31_r
 use fields::cm31::{CM31, CM31Answer, pow2147483645};
 use fields::m31::M31;
 
-#[unsafe(no_mangle)]
-pub extern "C" fn tari_cm31_zero() -> CM31Reply
+pub fn tari_cm31_zero() -> CM31Reply
     ensures { result ≡ cm31_reply (Value (of_pair complex_words.zero)) }
 {
     cm31_reply(CM31Answer::Value(CM31::zero()))
 }
 
-#[unsafe(no_mangle)]
-pub extern "C" fn tari_cm31_one() -> CM31Reply
+pub fn tari_cm31_one() -> CM31Reply
     ensures { result ≡ cm31_reply (Value (of_pair complex_words.one)) }
 {
     cm31_reply(CM31Answer::Value(CM31::one()))
 }
 
-#[unsafe(no_mangle)]
-pub extern "C" fn tari_cm31_is_zero(a0: u32, a1: u32) -> BoolReply
+pub fn tari_cm31_is_zero(a0: u32, a1: u32) -> BoolReply
     ensures { result ≡ bool_reply (is_zero_answer (of_pair (a0, a1))) }
 {
     bool_reply(CM31(M31(a0), M31(a1)).is_zero())
 }
 
-#[unsafe(no_mangle)]
-pub extern "C" fn tari_cm31_from_u32_unchecked(a: u32, b: u32) -> CM31Reply
+pub fn tari_cm31_from_u32_unchecked(a: u32, b: u32) -> CM31Reply
     ensures { result ≡ cm31_reply (from_pair_answer (a, b)) }
 {
     cm31_reply(CM31::from_u32_unchecked(a, b))
 }
 
-#[unsafe(no_mangle)]
-pub extern "C" fn tari_cm31_from_m31(a: u32, b: u32) -> CM31Reply
+pub fn tari_cm31_from_m31(a: u32, b: u32) -> CM31Reply
     ensures { result ≡ cm31_reply (from_pair_answer (a, b)) }
 {
     cm31_reply(CM31::from_m31(M31(a), M31(b)))
 }
 
-#[unsafe(no_mangle)]
-pub extern "C" fn tari_cm31_from_base(x: u32) -> CM31Reply
+pub fn tari_cm31_from_base(x: u32) -> CM31Reply
     ensures { result ≡ cm31_reply (from_base_answer (of_word x)) }
 {
     cm31_reply(CM31::from_base(M31(x)))
 }
 
-#[unsafe(no_mangle)]
-pub extern "C" fn tari_cm31_add(a0: u32, a1: u32, b0: u32, b1: u32) -> CM31Reply
+pub fn tari_cm31_add(a0: u32, a1: u32, b0: u32, b1: u32) -> CM31Reply
     ensures { result ≡ cm31_reply (add_answer (of_pair (a0, a1)) (of_pair (b0, b1))) }
 {
     cm31_reply(CM31(M31(a0), M31(a1)).add(CM31(M31(b0), M31(b1))))
 }
 
-#[unsafe(no_mangle)]
-pub extern "C" fn tari_cm31_sub(a0: u32, a1: u32, b0: u32, b1: u32) -> CM31Reply
+pub fn tari_cm31_sub(a0: u32, a1: u32, b0: u32, b1: u32) -> CM31Reply
     ensures { result ≡ cm31_reply (sub_answer (of_pair (a0, a1)) (of_pair (b0, b1))) }
 {
     cm31_reply(CM31(M31(a0), M31(a1)).sub(CM31(M31(b0), M31(b1))))
 }
 
-#[unsafe(no_mangle)]
-pub extern "C" fn tari_cm31_neg(a0: u32, a1: u32) -> CM31Reply
+pub fn tari_cm31_neg(a0: u32, a1: u32) -> CM31Reply
     ensures { result ≡ cm31_reply (neg_answer (of_pair (a0, a1))) }
 {
     cm31_reply(CM31(M31(a0), M31(a1)).neg())
 }
 
-#[unsafe(no_mangle)]
-pub extern "C" fn tari_cm31_mul(a0: u32, a1: u32, b0: u32, b1: u32) -> CM31Reply
+pub fn tari_cm31_mul(a0: u32, a1: u32, b0: u32, b1: u32) -> CM31Reply
     ensures { result ≡ cm31_reply (mul_answer (of_pair (a0, a1)) (of_pair (b0, b1))) }
 {
     cm31_reply(CM31(M31(a0), M31(a1)).mul(CM31(M31(b0), M31(b1))))
 }
 
-#[unsafe(no_mangle)]
-pub extern "C" fn tari_cm31_square(a0: u32, a1: u32) -> CM31Reply
+pub fn tari_cm31_square(a0: u32, a1: u32) -> CM31Reply
     ensures { result ≡ cm31_reply (square_answer (of_pair (a0, a1))) }
 {
     cm31_reply(CM31(M31(a0), M31(a1)).square())
 }
 
-#[unsafe(no_mangle)]
-pub extern "C" fn tari_cm31_pow(a0: u32, a1: u32, exp_high: u64, exp_low: u64) -> CM31Reply
+pub fn tari_cm31_pow(a0: u32, a1: u32, exp_high: u64, exp_low: u64) -> CM31Reply
     ensures { result ≡ cm31_reply (pow_answer (of_pair (a0, a1)) (exp_high * 2 ^ 64 + exp_low)) }
 {
     cm31_reply(CM31(M31(a0), M31(a1)).pow(exp_high, exp_low))
 }
 
-#[unsafe(no_mangle)]
-pub extern "C" fn tari_cm31_pow2147483645(a0: u32, a1: u32) -> CM31Reply
+pub fn tari_cm31_pow2147483645(a0: u32, a1: u32) -> CM31Reply
     ensures { result ≡ cm31_reply (pow_answer (of_pair (a0, a1)) 2147483645) }
 {
     cm31_reply(pow2147483645(CM31(M31(a0), M31(a1))))
 }
 
-#[unsafe(no_mangle)]
-pub extern "C" fn tari_cm31_inverse(a0: u32, a1: u32) -> CM31Reply
+pub fn tari_cm31_inverse(a0: u32, a1: u32) -> CM31Reply
     ensures { result ≡ cm31_reply (inverse_answer (of_pair (a0, a1))) }
 {
     cm31_reply(CM31(M31(a0), M31(a1)).inverse())
 }
 
-#[unsafe(no_mangle)]
-pub extern "C" fn tari_cm31_div(a0: u32, a1: u32, b0: u32, b1: u32) -> CM31Reply
+pub fn tari_cm31_div(a0: u32, a1: u32, b0: u32, b1: u32) -> CM31Reply
     ensures { result ≡ cm31_reply (div_answer (of_pair (a0, a1)) (of_pair (b0, b1))) }
 {
     cm31_reply(CM31(M31(a0), M31(a1)).div(CM31(M31(b0), M31(b1))))
 }
 
-#[unsafe(no_mangle)]
-pub extern "C" fn tari_cm31_complex_conjugate(a0: u32, a1: u32) -> CM31Reply
+pub fn tari_cm31_complex_conjugate(a0: u32, a1: u32) -> CM31Reply
     ensures { result ≡ cm31_reply (conjugate_answer (of_pair (a0, a1))) }
 {
     cm31_reply(CM31(M31(a0), M31(a1)).complex_conjugate())
 }
 
-#[unsafe(no_mangle)]
-pub extern "C" fn tari_cm31_try_into_m31(a0: u32, a1: u32) -> M31Reply
+pub fn tari_cm31_try_into_m31(a0: u32, a1: u32) -> M31Reply
     ensures { result ≡ m31_reply (narrow_answer (of_pair (a0, a1))) }
 {
     m31_reply(CM31(M31(a0), M31(a1)).try_into_m31())
 }
 
-#[unsafe(no_mangle)]
-pub extern "C" fn tari_cm31_add_m31(a0: u32, a1: u32, b: u32) -> CM31Reply
+pub fn tari_cm31_add_m31(a0: u32, a1: u32, b: u32) -> CM31Reply
     ensures { result ≡ cm31_reply (add_base_answer (of_pair (a0, a1)) (of_word b)) }
 {
     cm31_reply(CM31(M31(a0), M31(a1)).add_m31(M31(b)))
 }
 
-#[unsafe(no_mangle)]
-pub extern "C" fn tari_cm31_sub_m31(a0: u32, a1: u32, b: u32) -> CM31Reply
+pub fn tari_cm31_sub_m31(a0: u32, a1: u32, b: u32) -> CM31Reply
     ensures { result ≡ cm31_reply (sub_base_answer (of_pair (a0, a1)) (of_word b)) }
 {
     cm31_reply(CM31(M31(a0), M31(a1)).sub_m31(M31(b)))
 }
 
-#[unsafe(no_mangle)]
-pub extern "C" fn tari_cm31_mul_m31(a0: u32, a1: u32, b: u32) -> CM31Reply
+pub fn tari_cm31_mul_m31(a0: u32, a1: u32, b: u32) -> CM31Reply
     ensures { result ≡ cm31_reply (mul_base_answer (of_pair (a0, a1)) (of_word b)) }
 {
     cm31_reply(CM31(M31(a0), M31(a1)).mul_m31(M31(b)))
 }
 
-#[unsafe(no_mangle)]
-pub extern "C" fn tari_cm31_div_m31(a0: u32, a1: u32, b: u32) -> CM31Reply
+pub fn tari_cm31_div_m31(a0: u32, a1: u32, b: u32) -> CM31Reply
     ensures { result ≡ cm31_reply (div_base_answer (of_pair (a0, a1)) (of_word b)) }
 {
     cm31_reply(CM31(M31(a0), M31(a1)).div_m31(M31(b)))
 }
 
-#[unsafe(no_mangle)]
-pub extern "C" fn tari_m31_add_cm31(a: u32, b0: u32, b1: u32) -> CM31Reply
+pub fn tari_m31_add_cm31(a: u32, b0: u32, b1: u32) -> CM31Reply
     ensures { result ≡ cm31_reply (add_base_answer (of_pair (b0, b1)) (of_word a)) }
 {
     cm31_reply(M31(a).add_cm31(CM31(M31(b0), M31(b1))))
 }
 
-#[unsafe(no_mangle)]
-pub extern "C" fn tari_m31_sub_cm31(a: u32, b0: u32, b1: u32) -> CM31Reply
+pub fn tari_m31_sub_cm31(a: u32, b0: u32, b1: u32) -> CM31Reply
     ensures { result ≡ cm31_reply (base_sub_answer (of_word a) (of_pair (b0, b1))) }
 {
     cm31_reply(M31(a).sub_cm31(CM31(M31(b0), M31(b1))))
 }
 
-#[unsafe(no_mangle)]
-pub extern "C" fn tari_m31_mul_cm31(a: u32, b0: u32, b1: u32) -> CM31Reply
+pub fn tari_m31_mul_cm31(a: u32, b0: u32, b1: u32) -> CM31Reply
     ensures { result ≡ cm31_reply (mul_base_answer (of_pair (b0, b1)) (of_word a)) }
 {
     cm31_reply(M31(a).mul_cm31(CM31(M31(b0), M31(b1))))
 }
 
-#[unsafe(no_mangle)]
-pub extern "C" fn tari_m31_div_cm31(a: u32, b0: u32, b1: u32) -> CM31Reply
+pub fn tari_m31_div_cm31(a: u32, b0: u32, b1: u32) -> CM31Reply
     ensures { result ≡ cm31_reply (base_div_answer (of_word a) (of_pair (b0, b1))) }
 {
     cm31_reply(M31(a).div_cm31(CM31(M31(b0), M31(b1))))

@@ -9,15 +9,13 @@ ghost use Rattle.taripomune.specs.Reply.{u64_reply, write_reply};
 use crate::reply::{U64Reply, WriteReply, u64_reply, write_reply};
 use orders::utils;
 
-#[unsafe(no_mangle)]
-pub extern "C" fn tari_bit_reverse_index(i: u64, log_size: u32) -> U64Reply
+pub fn tari_bit_reverse_index(i: u64, log_size: u32) -> U64Reply
     ensures { result ≡ u64_reply (bit_reverse_index_answer i log_size) }
 {
     u64_reply(utils::bit_reverse_index(i, log_size))
 }
 
-#[unsafe(no_mangle)]
-pub extern "C" fn tari_bit_reverse(v: &mut [u32]) -> WriteReply
+pub fn tari_bit_reverse(v: &mut [u32]) -> WriteReply
     ensures { (result ≡ write_reply (in_place_answer (length v.old)))
         × (v.new ≡ in_place_exit (in_place_answer (length v.old)) (reverse_bits (log_size (length v.old)))
         v.old) }
@@ -25,8 +23,7 @@ pub extern "C" fn tari_bit_reverse(v: &mut [u32]) -> WriteReply
     write_reply(utils::bit_reverse(v))
 }
 
-#[unsafe(no_mangle)]
-pub extern "C" fn tari_offset_bit_reversed_circle_domain_index(
+pub fn tari_offset_bit_reversed_circle_domain_index(
     i: u64,
     domain_log_size: u32,
     eval_log_size: u32,
@@ -42,8 +39,7 @@ pub extern "C" fn tari_offset_bit_reversed_circle_domain_index(
     ))
 }
 
-#[unsafe(no_mangle)]
-pub extern "C" fn tari_previous_bit_reversed_circle_domain_index(
+pub fn tari_previous_bit_reversed_circle_domain_index(
     i: u64,
     domain_log_size: u32,
     eval_log_size: u32,
@@ -53,18 +49,13 @@ pub extern "C" fn tari_previous_bit_reversed_circle_domain_index(
     u64_reply(utils::previous_bit_reversed_circle_domain_index(i, domain_log_size, eval_log_size))
 }
 
-#[unsafe(no_mangle)]
-pub extern "C" fn tari_coset_index_to_circle_domain_index(
-    coset_index: u64,
-    log_domain_size: u32,
-) -> U64Reply
+pub fn tari_coset_index_to_circle_domain_index(coset_index: u64, log_domain_size: u32) -> U64Reply
     ensures { result ≡ u64_reply (coset_index_answer coset_index log_domain_size) }
 {
     u64_reply(utils::coset_index_to_circle_domain_index(coset_index, log_domain_size))
 }
 
-#[unsafe(no_mangle)]
-pub extern "C" fn tari_bit_reverse_coset_to_circle_domain_order(v: &mut [u32]) -> WriteReply
+pub fn tari_bit_reverse_coset_to_circle_domain_order(v: &mut [u32]) -> WriteReply
     ensures { (result ≡ write_reply (in_place_answer (length v.old)))
         × (v.new ≡ in_place_exit (in_place_answer (length v.old))
         (coset_bit_reversed (log_size (length v.old))) v.old) }
@@ -72,11 +63,7 @@ pub extern "C" fn tari_bit_reverse_coset_to_circle_domain_order(v: &mut [u32]) -
     write_reply(utils::bit_reverse_coset_to_circle_domain_order(v))
 }
 
-#[unsafe(no_mangle)]
-pub extern "C" fn tari_coset_order_to_circle_domain_order(
-    values: &[u32],
-    dst: &mut [u32],
-) -> WriteReply
+pub fn tari_coset_order_to_circle_domain_order(values: &[u32], dst: &mut [u32]) -> WriteReply
     ensures { (result ≡ write_reply (copy_answer (length values.now) (length dst.old)))
         × (dst.new ≡ copy_exit (copy_answer (length values.now) (length dst.old))
         (to_coset (length values.now)) values.now dst.old) }
@@ -84,11 +71,7 @@ pub extern "C" fn tari_coset_order_to_circle_domain_order(
     write_reply(utils::coset_order_to_circle_domain_order(values, dst))
 }
 
-#[unsafe(no_mangle)]
-pub extern "C" fn tari_circle_domain_order_to_coset_order(
-    values: &[u32],
-    dst: &mut [u32],
-) -> WriteReply
+pub fn tari_circle_domain_order_to_coset_order(values: &[u32], dst: &mut [u32]) -> WriteReply
     ensures { (result ≡ write_reply (copy_answer (length values.now) (length dst.old)))
         × (dst.new ≡ copy_exit (copy_answer (length values.now) (length dst.old))
         (to_domain (length values.now)) values.now dst.old) }

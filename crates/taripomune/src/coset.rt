@@ -20,36 +20,31 @@ use crate::reply::{
 use circle::index::CirclePointIndex;
 use domains::coset::Coset;
 
-#[unsafe(no_mangle)]
-pub extern "C" fn tari_coset_new(initial_index: u64, log_size: u32) -> CosetReply
+pub fn tari_coset_new(initial_index: u64, log_size: u32) -> CosetReply
     ensures { result ≡ coset_reply (new_answer (of_index initial_index) log_size) }
 {
     coset_reply(Coset::new(CirclePointIndex(initial_index), log_size))
 }
 
-#[unsafe(no_mangle)]
-pub extern "C" fn tari_coset_subgroup(log_size: u32) -> CosetReply
+pub fn tari_coset_subgroup(log_size: u32) -> CosetReply
     ensures { result ≡ coset_reply (subgroup_answer log_size) }
 {
     coset_reply(Coset::subgroup(log_size))
 }
 
-#[unsafe(no_mangle)]
-pub extern "C" fn tari_coset_odds(log_size: u32) -> CosetReply
+pub fn tari_coset_odds(log_size: u32) -> CosetReply
     ensures { result ≡ coset_reply (odds_answer log_size) }
 {
     coset_reply(Coset::odds(log_size))
 }
 
-#[unsafe(no_mangle)]
-pub extern "C" fn tari_coset_half_odds(log_size: u32) -> CosetReply
+pub fn tari_coset_half_odds(log_size: u32) -> CosetReply
     ensures { result ≡ coset_reply (half_odds_answer log_size) }
 {
     coset_reply(Coset::half_odds(log_size))
 }
 
-#[unsafe(no_mangle)]
-pub extern "C" fn tari_coset_size(
+pub fn tari_coset_size(
     initial_index: u64,
     initial_x: u32,
     initial_y: u32,
@@ -73,8 +68,7 @@ pub extern "C" fn tari_coset_size(
     u64_reply(c.size())
 }
 
-#[unsafe(no_mangle)]
-pub extern "C" fn tari_coset_log_size(
+pub fn tari_coset_log_size(
     initial_index: u64,
     initial_x: u32,
     initial_y: u32,
@@ -98,8 +92,7 @@ pub extern "C" fn tari_coset_log_size(
     u32_reply(c.log_size())
 }
 
-#[unsafe(no_mangle)]
-pub extern "C" fn tari_coset_iter_indices(
+pub fn tari_coset_iter_indices(
     initial_index: u64,
     initial_x: u32,
     initial_y: u32,
@@ -123,8 +116,7 @@ pub extern "C" fn tari_coset_iter_indices(
     coset_iterator_reply(c.iter_indices())
 }
 
-#[unsafe(no_mangle)]
-pub extern "C" fn tari_coset_double(
+pub fn tari_coset_double(
     initial_index: u64,
     initial_x: u32,
     initial_y: u32,
@@ -148,8 +140,7 @@ pub extern "C" fn tari_coset_double(
     coset_reply(c.double())
 }
 
-#[unsafe(no_mangle)]
-pub extern "C" fn tari_coset_repeated_double(
+pub fn tari_coset_repeated_double(
     initial_index: u64,
     initial_x: u32,
     initial_y: u32,
@@ -174,8 +165,7 @@ pub extern "C" fn tari_coset_repeated_double(
     coset_reply(c.repeated_double(n_doubles))
 }
 
-#[unsafe(no_mangle)]
-pub extern "C" fn tari_coset_is_doubling_of(
+pub fn tari_coset_is_doubling_of(
     initial_index: u64,
     initial_x: u32,
     initial_y: u32,
@@ -217,8 +207,7 @@ pub extern "C" fn tari_coset_is_doubling_of(
     bool_reply(c.is_doubling_of(other))
 }
 
-#[unsafe(no_mangle)]
-pub extern "C" fn tari_coset_initial(
+pub fn tari_coset_initial(
     initial_index: u64,
     initial_x: u32,
     initial_y: u32,
@@ -242,8 +231,7 @@ pub extern "C" fn tari_coset_initial(
     point_reply(c.initial())
 }
 
-#[unsafe(no_mangle)]
-pub extern "C" fn tari_coset_index_at(
+pub fn tari_coset_index_at(
     initial_index: u64,
     initial_x: u32,
     initial_y: u32,
@@ -268,8 +256,7 @@ pub extern "C" fn tari_coset_index_at(
     index_reply(c.index_at(i))
 }
 
-#[unsafe(no_mangle)]
-pub extern "C" fn tari_coset_at(
+pub fn tari_coset_at(
     initial_index: u64,
     initial_x: u32,
     initial_y: u32,
@@ -294,8 +281,7 @@ pub extern "C" fn tari_coset_at(
     point_reply(c.at(i))
 }
 
-#[unsafe(no_mangle)]
-pub extern "C" fn tari_coset_shift(
+pub fn tari_coset_shift(
     initial_index: u64,
     initial_x: u32,
     initial_y: u32,
@@ -321,8 +307,7 @@ pub extern "C" fn tari_coset_shift(
     coset_reply(c.shift(CirclePointIndex(shift_size)))
 }
 
-#[unsafe(no_mangle)]
-pub extern "C" fn tari_coset_conjugate(
+pub fn tari_coset_conjugate(
     initial_index: u64,
     initial_x: u32,
     initial_y: u32,
@@ -346,8 +331,7 @@ pub extern "C" fn tari_coset_conjugate(
     coset_reply(c.conjugate())
 }
 
-#[unsafe(no_mangle)]
-pub extern "C" fn tari_coset_iterator_next(cur: u64, step: u64, remaining: u64) -> CosetStepReply
+pub fn tari_coset_iterator_next(cur: u64, step: u64, remaining: u64) -> CosetStepReply
     ensures { result ≡ coset_step_reply (next_answer (iterator_of_numbers cur step remaining)) }
 {
     let it = coset_iterator(cur, step, remaining);

@@ -17,15 +17,13 @@ use crate::reply::{
 use circle::point::{CirclePoint, CirclePointAnswer};
 use fields::m31::M31;
 
-#[unsafe(no_mangle)]
-pub extern "C" fn tari_point_zero() -> PointReply
+pub fn tari_point_zero() -> PointReply
     ensures { result ≡ point_reply (Value (of_point (zero_point words31))) }
 {
     point_reply(CirclePointAnswer::Value(CirclePoint::zero()))
 }
 
-#[unsafe(no_mangle)]
-pub extern "C" fn tari_point_add(ax: u32, ay: u32, bx: u32, by: u32) -> PointReply
+pub fn tari_point_add(ax: u32, ay: u32, bx: u32, by: u32) -> PointReply
     ensures { result ≡ point_reply (add_answer (of_point (ax, ay)) (of_point (bx, by))) }
 {
     let a = CirclePoint {
@@ -39,8 +37,7 @@ pub extern "C" fn tari_point_add(ax: u32, ay: u32, bx: u32, by: u32) -> PointRep
     point_reply(a.add(b))
 }
 
-#[unsafe(no_mangle)]
-pub extern "C" fn tari_point_sub(ax: u32, ay: u32, bx: u32, by: u32) -> PointReply
+pub fn tari_point_sub(ax: u32, ay: u32, bx: u32, by: u32) -> PointReply
     ensures { result ≡ point_reply (sub_answer (of_point (ax, ay)) (of_point (bx, by))) }
 {
     let a = CirclePoint {
@@ -54,8 +51,7 @@ pub extern "C" fn tari_point_sub(ax: u32, ay: u32, bx: u32, by: u32) -> PointRep
     point_reply(a.sub(b))
 }
 
-#[unsafe(no_mangle)]
-pub extern "C" fn tari_point_neg(x: u32, y: u32) -> PointReply
+pub fn tari_point_neg(x: u32, y: u32) -> PointReply
     ensures { result ≡ point_reply (conjugate_answer (of_point (x, y))) }
 {
     let p = CirclePoint {
@@ -65,8 +61,7 @@ pub extern "C" fn tari_point_neg(x: u32, y: u32) -> PointReply
     point_reply(p.neg())
 }
 
-#[unsafe(no_mangle)]
-pub extern "C" fn tari_point_double(x: u32, y: u32) -> PointReply
+pub fn tari_point_double(x: u32, y: u32) -> PointReply
     ensures { result ≡ point_reply (double_answer (of_point (x, y))) }
 {
     let p = CirclePoint {
@@ -76,15 +71,13 @@ pub extern "C" fn tari_point_double(x: u32, y: u32) -> PointReply
     point_reply(p.double())
 }
 
-#[unsafe(no_mangle)]
-pub extern "C" fn tari_point_double_x(x: u32) -> M31Reply
+pub fn tari_point_double_x(x: u32) -> M31Reply
     ensures { result ≡ m31_reply (double_x_answer (of_word x)) }
 {
     m31_reply(CirclePoint::double_x(M31(x)))
 }
 
-#[unsafe(no_mangle)]
-pub extern "C" fn tari_point_mul(x: u32, y: u32, scalar_high: u64, scalar_low: u64) -> PointReply
+pub fn tari_point_mul(x: u32, y: u32, scalar_high: u64, scalar_low: u64) -> PointReply
     ensures { result ≡ point_reply (mul_answer (of_point (x, y)) (scalar_high * 2 ^ 64 + scalar_low)) }
 {
     let p = CirclePoint {
@@ -94,8 +87,7 @@ pub extern "C" fn tari_point_mul(x: u32, y: u32, scalar_high: u64, scalar_low: u
     point_reply(p.mul(scalar_high, scalar_low))
 }
 
-#[unsafe(no_mangle)]
-pub extern "C" fn tari_point_mul_signed(x: u32, y: u32, off: i64) -> PointReply
+pub fn tari_point_mul_signed(x: u32, y: u32, off: i64) -> PointReply
     ensures { result ≡ point_reply (mul_signed_answer (of_point (x, y)) off) }
 {
     let p = CirclePoint {
@@ -105,8 +97,7 @@ pub extern "C" fn tari_point_mul_signed(x: u32, y: u32, off: i64) -> PointReply
     point_reply(p.mul_signed(off))
 }
 
-#[unsafe(no_mangle)]
-pub extern "C" fn tari_point_repeated_double(x: u32, y: u32, n: u32) -> PointReply
+pub fn tari_point_repeated_double(x: u32, y: u32, n: u32) -> PointReply
     ensures { result ≡ point_reply (repeated_double_answer (of_point (x, y)) n) }
 {
     let p = CirclePoint {
@@ -116,8 +107,7 @@ pub extern "C" fn tari_point_repeated_double(x: u32, y: u32, n: u32) -> PointRep
     point_reply(p.repeated_double(n))
 }
 
-#[unsafe(no_mangle)]
-pub extern "C" fn tari_point_conjugate(x: u32, y: u32) -> PointReply
+pub fn tari_point_conjugate(x: u32, y: u32) -> PointReply
     ensures { result ≡ point_reply (conjugate_answer (of_point (x, y))) }
 {
     let p = CirclePoint {
@@ -127,8 +117,7 @@ pub extern "C" fn tari_point_conjugate(x: u32, y: u32) -> PointReply
     point_reply(p.conjugate())
 }
 
-#[unsafe(no_mangle)]
-pub extern "C" fn tari_point_antipode(x: u32, y: u32) -> PointReply
+pub fn tari_point_antipode(x: u32, y: u32) -> PointReply
     ensures { result ≡ point_reply (antipode_answer (of_point (x, y))) }
 {
     let p = CirclePoint {
@@ -138,8 +127,7 @@ pub extern "C" fn tari_point_antipode(x: u32, y: u32) -> PointReply
     point_reply(p.antipode())
 }
 
-#[unsafe(no_mangle)]
-pub extern "C" fn tari_point_complex_conjugate(x: u32, y: u32) -> PointReply
+pub fn tari_point_complex_conjugate(x: u32, y: u32) -> PointReply
     ensures { result ≡ point_reply (complex_conjugate_answer (of_point (x, y))) }
 {
     let p = CirclePoint {
@@ -149,8 +137,7 @@ pub extern "C" fn tari_point_complex_conjugate(x: u32, y: u32) -> PointReply
     point_reply(p.complex_conjugate())
 }
 
-#[unsafe(no_mangle)]
-pub extern "C" fn tari_point_into_ef(x: u32, y: u32) -> SecurePointReply
+pub fn tari_point_into_ef(x: u32, y: u32) -> SecurePointReply
     ensures { result ≡ secure_point_reply (into_ef_answer (of_point (x, y))) }
 {
     let p = CirclePoint {
@@ -160,8 +147,7 @@ pub extern "C" fn tari_point_into_ef(x: u32, y: u32) -> SecurePointReply
     secure_point_reply(p.into_ef())
 }
 
-#[unsafe(no_mangle)]
-pub extern "C" fn tari_point_log_order(x: u32, y: u32) -> U32Reply
+pub fn tari_point_log_order(x: u32, y: u32) -> U32Reply
     ensures { result ≡ u32_reply (log_order_answer (of_point (x, y))) }
 {
     let p = CirclePoint {

@@ -19,85 +19,73 @@ use fields::cm31::CM31;
 use fields::m31::M31;
 use fields::qm31::{QM31, QM31Answer, pow2147483645};
 
-#[unsafe(no_mangle)]
-pub extern "C" fn tari_qm31_zero() -> QM31Reply
+pub fn tari_qm31_zero() -> QM31Reply
     ensures { result ≡ qm31_reply (Value (of_pairs quartic_words.zero)) }
 {
     qm31_reply(QM31Answer::Value(QM31::zero()))
 }
 
-#[unsafe(no_mangle)]
-pub extern "C" fn tari_qm31_one() -> QM31Reply
+pub fn tari_qm31_one() -> QM31Reply
     ensures { result ≡ qm31_reply (Value (of_pairs quartic_words.one)) }
 {
     qm31_reply(QM31Answer::Value(QM31::one()))
 }
 
-#[unsafe(no_mangle)]
-pub extern "C" fn tari_qm31_is_zero(a0: u32, a1: u32, a2: u32, a3: u32) -> BoolReply
+pub fn tari_qm31_is_zero(a0: u32, a1: u32, a2: u32, a3: u32) -> BoolReply
     ensures { result ≡ bool_reply (is_zero_answer (of_pairs ((a0, a1), (a2, a3)))) }
 {
     bool_reply(QM31(CM31(M31(a0), M31(a1)), CM31(M31(a2), M31(a3))).is_zero())
 }
 
-#[unsafe(no_mangle)]
-pub extern "C" fn tari_qm31_from_u32_unchecked(a: u32, b: u32, c: u32, d: u32) -> QM31Reply
+pub fn tari_qm31_from_u32_unchecked(a: u32, b: u32, c: u32, d: u32) -> QM31Reply
     ensures { result ≡ qm31_reply (from_pairs_answer ((a, b), (c, d))) }
 {
     qm31_reply(QM31::from_u32_unchecked(a, b, c, d))
 }
 
-#[unsafe(no_mangle)]
-pub extern "C" fn tari_qm31_from_m31(a: u32, b: u32, c: u32, d: u32) -> QM31Reply
+pub fn tari_qm31_from_m31(a: u32, b: u32, c: u32, d: u32) -> QM31Reply
     ensures { result ≡ qm31_reply (from_pairs_answer ((a, b), (c, d))) }
 {
     qm31_reply(QM31::from_m31(M31(a), M31(b), M31(c), M31(d)))
 }
 
-#[unsafe(no_mangle)]
-pub extern "C" fn tari_qm31_from_m31_array(a: u32, b: u32, c: u32, d: u32) -> QM31Reply
+pub fn tari_qm31_from_m31_array(a: u32, b: u32, c: u32, d: u32) -> QM31Reply
     ensures { result ≡ qm31_reply (from_array_answer (of_word a ∷ of_word b ∷ of_word c ∷ of_word d ∷ [])) }
 {
     qm31_reply(QM31::from_m31_array([M31(a), M31(b), M31(c), M31(d)]))
 }
 
-#[unsafe(no_mangle)]
-pub extern "C" fn tari_qm31_to_m31_array(a0: u32, a1: u32, a2: u32, a3: u32) -> QM31Reply
+pub fn tari_qm31_to_m31_array(a0: u32, a1: u32, a2: u32, a3: u32) -> QM31Reply
     ensures { result ≡ array_reply (to_array_answer (of_pairs ((a0, a1), (a2, a3)))) }
 {
     array_reply(QM31(CM31(M31(a0), M31(a1)), CM31(M31(a2), M31(a3))).to_m31_array())
 }
 
-#[unsafe(no_mangle)]
-pub extern "C" fn tari_qm31_from_base(x: u32) -> QM31Reply
+pub fn tari_qm31_from_base(x: u32) -> QM31Reply
     ensures { result ≡ qm31_reply (from_base_answer (of_word x)) }
 {
     qm31_reply(QM31::from_base(M31(x)))
 }
 
-#[unsafe(no_mangle)]
-pub extern "C" fn tari_qm31_from_usize(value: u64) -> QM31Reply
+pub fn tari_qm31_from_usize(value: u64) -> QM31Reply
     ensures { result ≡ qm31_reply (from_number_answer value) }
 {
     qm31_reply(QM31::from_usize(value as usize))
 }
 
-#[unsafe(no_mangle)]
-pub extern "C" fn tari_qm31_from_u32(value: u32) -> QM31Reply
+pub fn tari_qm31_from_u32(value: u32) -> QM31Reply
     ensures { result ≡ qm31_reply (Value (of_pairs (of_base (value % P)))) }
 {
     qm31_reply(QM31Answer::Value(QM31::from_u32(value)))
 }
 
-#[unsafe(no_mangle)]
-pub extern "C" fn tari_qm31_from_i32(value: i32) -> QM31Reply
+pub fn tari_qm31_from_i32(value: i32) -> QM31Reply
     ensures { result ≡ qm31_reply (Value (of_pairs (of_base (residue_of value)))) }
 {
     qm31_reply(QM31Answer::Value(QM31::from_i32(value)))
 }
 
-#[unsafe(no_mangle)]
-pub extern "C" fn tari_qm31_from_partial_evals(
+pub fn tari_qm31_from_partial_evals(
     a0: u32,
     a1: u32,
     a2: u32,
@@ -126,8 +114,7 @@ pub extern "C" fn tari_qm31_from_partial_evals(
     ]))
 }
 
-#[unsafe(no_mangle)]
-pub extern "C" fn tari_qm31_add(
+pub fn tari_qm31_add(
     a0: u32,
     a1: u32,
     a2: u32,
@@ -144,8 +131,7 @@ pub extern "C" fn tari_qm31_add(
     qm31_reply(a.add(b))
 }
 
-#[unsafe(no_mangle)]
-pub extern "C" fn tari_qm31_sub(
+pub fn tari_qm31_sub(
     a0: u32,
     a1: u32,
     a2: u32,
@@ -162,15 +148,13 @@ pub extern "C" fn tari_qm31_sub(
     qm31_reply(a.sub(b))
 }
 
-#[unsafe(no_mangle)]
-pub extern "C" fn tari_qm31_neg(a0: u32, a1: u32, a2: u32, a3: u32) -> QM31Reply
+pub fn tari_qm31_neg(a0: u32, a1: u32, a2: u32, a3: u32) -> QM31Reply
     ensures { result ≡ qm31_reply (neg_answer (of_pairs ((a0, a1), (a2, a3)))) }
 {
     qm31_reply(QM31(CM31(M31(a0), M31(a1)), CM31(M31(a2), M31(a3))).neg())
 }
 
-#[unsafe(no_mangle)]
-pub extern "C" fn tari_qm31_mul(
+pub fn tari_qm31_mul(
     a0: u32,
     a1: u32,
     a2: u32,
@@ -187,15 +171,7 @@ pub extern "C" fn tari_qm31_mul(
     qm31_reply(a.mul(b))
 }
 
-#[unsafe(no_mangle)]
-pub extern "C" fn tari_qm31_mul_cm31(
-    a0: u32,
-    a1: u32,
-    a2: u32,
-    a3: u32,
-    b0: u32,
-    b1: u32,
-) -> QM31Reply
+pub fn tari_qm31_mul_cm31(a0: u32, a1: u32, a2: u32, a3: u32, b0: u32, b1: u32) -> QM31Reply
     ensures { result ≡ qm31_reply (mul_complex_answer (of_pairs ((a0, a1), (a2, a3))) (of_pair (b0, b1))) }
 {
     let a = QM31(CM31(M31(a0), M31(a1)), CM31(M31(a2), M31(a3)));
@@ -203,43 +179,31 @@ pub extern "C" fn tari_qm31_mul_cm31(
     qm31_reply(a.mul_cm31(b))
 }
 
-#[unsafe(no_mangle)]
-pub extern "C" fn tari_qm31_square(a0: u32, a1: u32, a2: u32, a3: u32) -> QM31Reply
+pub fn tari_qm31_square(a0: u32, a1: u32, a2: u32, a3: u32) -> QM31Reply
     ensures { result ≡ qm31_reply (square_answer (of_pairs ((a0, a1), (a2, a3)))) }
 {
     qm31_reply(QM31(CM31(M31(a0), M31(a1)), CM31(M31(a2), M31(a3))).square())
 }
 
-#[unsafe(no_mangle)]
-pub extern "C" fn tari_qm31_pow(
-    a0: u32,
-    a1: u32,
-    a2: u32,
-    a3: u32,
-    exp_high: u64,
-    exp_low: u64,
-) -> QM31Reply
+pub fn tari_qm31_pow(a0: u32, a1: u32, a2: u32, a3: u32, exp_high: u64, exp_low: u64) -> QM31Reply
     ensures { result ≡ qm31_reply (pow_answer (of_pairs ((a0, a1), (a2, a3))) (exp_high * 2 ^ 64 + exp_low)) }
 {
     qm31_reply(QM31(CM31(M31(a0), M31(a1)), CM31(M31(a2), M31(a3))).pow(exp_high, exp_low))
 }
 
-#[unsafe(no_mangle)]
-pub extern "C" fn tari_qm31_pow2147483645(a0: u32, a1: u32, a2: u32, a3: u32) -> QM31Reply
+pub fn tari_qm31_pow2147483645(a0: u32, a1: u32, a2: u32, a3: u32) -> QM31Reply
     ensures { result ≡ qm31_reply (pow_answer (of_pairs ((a0, a1), (a2, a3))) 2147483645) }
 {
     qm31_reply(pow2147483645(QM31(CM31(M31(a0), M31(a1)), CM31(M31(a2), M31(a3)))))
 }
 
-#[unsafe(no_mangle)]
-pub extern "C" fn tari_qm31_inverse(a0: u32, a1: u32, a2: u32, a3: u32) -> QM31Reply
+pub fn tari_qm31_inverse(a0: u32, a1: u32, a2: u32, a3: u32) -> QM31Reply
     ensures { result ≡ qm31_reply (inverse_answer (of_pairs ((a0, a1), (a2, a3)))) }
 {
     qm31_reply(QM31(CM31(M31(a0), M31(a1)), CM31(M31(a2), M31(a3))).inverse())
 }
 
-#[unsafe(no_mangle)]
-pub extern "C" fn tari_qm31_div(
+pub fn tari_qm31_div(
     a0: u32,
     a1: u32,
     a2: u32,
@@ -256,71 +220,61 @@ pub extern "C" fn tari_qm31_div(
     qm31_reply(a.div(b))
 }
 
-#[unsafe(no_mangle)]
-pub extern "C" fn tari_qm31_complex_conjugate(a0: u32, a1: u32, a2: u32, a3: u32) -> QM31Reply
+pub fn tari_qm31_complex_conjugate(a0: u32, a1: u32, a2: u32, a3: u32) -> QM31Reply
     ensures { result ≡ qm31_reply (conjugate_answer (of_pairs ((a0, a1), (a2, a3)))) }
 {
     qm31_reply(QM31(CM31(M31(a0), M31(a1)), CM31(M31(a2), M31(a3))).complex_conjugate())
 }
 
-#[unsafe(no_mangle)]
-pub extern "C" fn tari_qm31_try_into_m31(a0: u32, a1: u32, a2: u32, a3: u32) -> M31Reply
+pub fn tari_qm31_try_into_m31(a0: u32, a1: u32, a2: u32, a3: u32) -> M31Reply
     ensures { result ≡ m31_reply (narrow_answer (of_pairs ((a0, a1), (a2, a3)))) }
 {
     m31_reply(QM31(CM31(M31(a0), M31(a1)), CM31(M31(a2), M31(a3))).try_into_m31())
 }
 
-#[unsafe(no_mangle)]
-pub extern "C" fn tari_qm31_add_m31(a0: u32, a1: u32, a2: u32, a3: u32, b: u32) -> QM31Reply
+pub fn tari_qm31_add_m31(a0: u32, a1: u32, a2: u32, a3: u32, b: u32) -> QM31Reply
     ensures { result ≡ qm31_reply (add_base_answer (of_pairs ((a0, a1), (a2, a3))) (of_word b)) }
 {
     qm31_reply(QM31(CM31(M31(a0), M31(a1)), CM31(M31(a2), M31(a3))).add_m31(M31(b)))
 }
 
-#[unsafe(no_mangle)]
-pub extern "C" fn tari_qm31_sub_m31(a0: u32, a1: u32, a2: u32, a3: u32, b: u32) -> QM31Reply
+pub fn tari_qm31_sub_m31(a0: u32, a1: u32, a2: u32, a3: u32, b: u32) -> QM31Reply
     ensures { result ≡ qm31_reply (sub_base_answer (of_pairs ((a0, a1), (a2, a3))) (of_word b)) }
 {
     qm31_reply(QM31(CM31(M31(a0), M31(a1)), CM31(M31(a2), M31(a3))).sub_m31(M31(b)))
 }
 
-#[unsafe(no_mangle)]
-pub extern "C" fn tari_qm31_mul_m31(a0: u32, a1: u32, a2: u32, a3: u32, b: u32) -> QM31Reply
+pub fn tari_qm31_mul_m31(a0: u32, a1: u32, a2: u32, a3: u32, b: u32) -> QM31Reply
     ensures { result ≡ qm31_reply (mul_base_answer (of_pairs ((a0, a1), (a2, a3))) (of_word b)) }
 {
     qm31_reply(QM31(CM31(M31(a0), M31(a1)), CM31(M31(a2), M31(a3))).mul_m31(M31(b)))
 }
 
-#[unsafe(no_mangle)]
-pub extern "C" fn tari_qm31_div_m31(a0: u32, a1: u32, a2: u32, a3: u32, b: u32) -> QM31Reply
+pub fn tari_qm31_div_m31(a0: u32, a1: u32, a2: u32, a3: u32, b: u32) -> QM31Reply
     ensures { result ≡ qm31_reply (div_base_answer (of_pairs ((a0, a1), (a2, a3))) (of_word b)) }
 {
     qm31_reply(QM31(CM31(M31(a0), M31(a1)), CM31(M31(a2), M31(a3))).div_m31(M31(b)))
 }
 
-#[unsafe(no_mangle)]
-pub extern "C" fn tari_m31_add_qm31(a: u32, b0: u32, b1: u32, b2: u32, b3: u32) -> QM31Reply
+pub fn tari_m31_add_qm31(a: u32, b0: u32, b1: u32, b2: u32, b3: u32) -> QM31Reply
     ensures { result ≡ qm31_reply (add_base_answer (of_pairs ((b0, b1), (b2, b3))) (of_word a)) }
 {
     qm31_reply(M31(a).add_qm31(QM31(CM31(M31(b0), M31(b1)), CM31(M31(b2), M31(b3)))))
 }
 
-#[unsafe(no_mangle)]
-pub extern "C" fn tari_m31_sub_qm31(a: u32, b0: u32, b1: u32, b2: u32, b3: u32) -> QM31Reply
+pub fn tari_m31_sub_qm31(a: u32, b0: u32, b1: u32, b2: u32, b3: u32) -> QM31Reply
     ensures { result ≡ qm31_reply (base_sub_answer (of_word a) (of_pairs ((b0, b1), (b2, b3)))) }
 {
     qm31_reply(M31(a).sub_qm31(QM31(CM31(M31(b0), M31(b1)), CM31(M31(b2), M31(b3)))))
 }
 
-#[unsafe(no_mangle)]
-pub extern "C" fn tari_m31_mul_qm31(a: u32, b0: u32, b1: u32, b2: u32, b3: u32) -> QM31Reply
+pub fn tari_m31_mul_qm31(a: u32, b0: u32, b1: u32, b2: u32, b3: u32) -> QM31Reply
     ensures { result ≡ qm31_reply (mul_base_answer (of_pairs ((b0, b1), (b2, b3))) (of_word a)) }
 {
     qm31_reply(M31(a).mul_qm31(QM31(CM31(M31(b0), M31(b1)), CM31(M31(b2), M31(b3)))))
 }
 
-#[unsafe(no_mangle)]
-pub extern "C" fn tari_m31_div_qm31(a: u32, b0: u32, b1: u32, b2: u32, b3: u32) -> QM31Reply
+pub fn tari_m31_div_qm31(a: u32, b0: u32, b1: u32, b2: u32, b3: u32) -> QM31Reply
     ensures { result ≡ qm31_reply (base_div_answer (of_word a) (of_pairs ((b0, b1), (b2, b3)))) }
 {
     qm31_reply(M31(a).div_qm31(QM31(CM31(M31(b0), M31(b1)), CM31(M31(b2), M31(b3)))))

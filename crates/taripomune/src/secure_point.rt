@@ -15,15 +15,13 @@ use fields::cm31::CM31;
 use fields::m31::M31;
 use fields::qm31::QM31;
 
-#[unsafe(no_mangle)]
-pub extern "C" fn tari_secure_point_zero() -> SecurePointReply
+pub fn tari_secure_point_zero() -> SecurePointReply
     ensures { result ≡ secure_point_reply (Value (of_point (zero_point quartic_words))) }
 {
     secure_point_reply(SecureCirclePointAnswer::Value(SecureCirclePoint::zero()))
 }
 
-#[unsafe(no_mangle)]
-pub extern "C" fn tari_secure_point_add(
+pub fn tari_secure_point_add(
     ax0: u32,
     ax1: u32,
     ax2: u32,
@@ -55,8 +53,7 @@ pub extern "C" fn tari_secure_point_add(
     secure_point_reply(a.add(b))
 }
 
-#[unsafe(no_mangle)]
-pub extern "C" fn tari_secure_point_sub(
+pub fn tari_secure_point_sub(
     ax0: u32,
     ax1: u32,
     ax2: u32,
@@ -88,8 +85,7 @@ pub extern "C" fn tari_secure_point_sub(
     secure_point_reply(a.sub(b))
 }
 
-#[unsafe(no_mangle)]
-pub extern "C" fn tari_secure_point_neg(
+pub fn tari_secure_point_neg(
     x0: u32,
     x1: u32,
     x2: u32,
@@ -108,8 +104,7 @@ pub extern "C" fn tari_secure_point_neg(
     secure_point_reply(p.neg())
 }
 
-#[unsafe(no_mangle)]
-pub extern "C" fn tari_secure_point_double(
+pub fn tari_secure_point_double(
     x0: u32,
     x1: u32,
     x2: u32,
@@ -128,15 +123,13 @@ pub extern "C" fn tari_secure_point_double(
     secure_point_reply(p.double())
 }
 
-#[unsafe(no_mangle)]
-pub extern "C" fn tari_secure_point_double_x(x0: u32, x1: u32, x2: u32, x3: u32) -> QM31Reply
+pub fn tari_secure_point_double_x(x0: u32, x1: u32, x2: u32, x3: u32) -> QM31Reply
     ensures { result ≡ qm31_reply (double_x_answer (of_pairs ((x0, x1), (x2, x3)))) }
 {
     qm31_reply(SecureCirclePoint::double_x(QM31(CM31(M31(x0), M31(x1)), CM31(M31(x2), M31(x3)))))
 }
 
-#[unsafe(no_mangle)]
-pub extern "C" fn tari_secure_point_mul(
+pub fn tari_secure_point_mul(
     x0: u32,
     x1: u32,
     x2: u32,
@@ -157,8 +150,7 @@ pub extern "C" fn tari_secure_point_mul(
     secure_point_reply(p.mul(scalar_high, scalar_low))
 }
 
-#[unsafe(no_mangle)]
-pub extern "C" fn tari_secure_point_mul_signed(
+pub fn tari_secure_point_mul_signed(
     x0: u32,
     x1: u32,
     x2: u32,
@@ -178,8 +170,7 @@ pub extern "C" fn tari_secure_point_mul_signed(
     secure_point_reply(p.mul_signed(off))
 }
 
-#[unsafe(no_mangle)]
-pub extern "C" fn tari_secure_point_repeated_double(
+pub fn tari_secure_point_repeated_double(
     x0: u32,
     x1: u32,
     x2: u32,
@@ -199,8 +190,7 @@ pub extern "C" fn tari_secure_point_repeated_double(
     secure_point_reply(p.repeated_double(n))
 }
 
-#[unsafe(no_mangle)]
-pub extern "C" fn tari_secure_point_conjugate(
+pub fn tari_secure_point_conjugate(
     x0: u32,
     x1: u32,
     x2: u32,
@@ -219,8 +209,7 @@ pub extern "C" fn tari_secure_point_conjugate(
     secure_point_reply(p.conjugate())
 }
 
-#[unsafe(no_mangle)]
-pub extern "C" fn tari_secure_point_antipode(
+pub fn tari_secure_point_antipode(
     x0: u32,
     x1: u32,
     x2: u32,
@@ -239,8 +228,7 @@ pub extern "C" fn tari_secure_point_antipode(
     secure_point_reply(p.antipode())
 }
 
-#[unsafe(no_mangle)]
-pub extern "C" fn tari_secure_point_complex_conjugate(
+pub fn tari_secure_point_complex_conjugate(
     x0: u32,
     x1: u32,
     x2: u32,
@@ -259,8 +247,7 @@ pub extern "C" fn tari_secure_point_complex_conjugate(
     secure_point_reply(p.complex_conjugate())
 }
 
-#[unsafe(no_mangle)]
-pub extern "C" fn tari_secure_point_get_point(index_high: u64, index_low: u64) -> SecurePointReply
+pub fn tari_secure_point_get_point(index_high: u64, index_low: u64) -> SecurePointReply
     ensures { result ≡ secure_point_reply (get_point_answer (index_high * 2 ^ 64 + index_low)) }
 {
     secure_point_reply(SecureCirclePoint::get_point(index_high, index_low))

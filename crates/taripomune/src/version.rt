@@ -7,8 +7,7 @@ ghost use Rattle.taripomune.specs.Version.{version};
 use crate::reply::{U32Reply, u32_reply};
 use fields::answer::U32Answer;
 
-#[unsafe(no_mangle)]
-pub extern "C" fn tari_version() -> U32Reply
+pub fn tari_version() -> U32Reply
     ensures { result ≡ u32_reply (Value version) }
 {
     u32_reply(U32Answer::Value(4))

@@ -1,0 +1,78 @@
+// Point indices (circle::index).
+ghost use Rattle.std.specs.Prelude.{◌≡◌};
+ghost use Rattle.circle.specs.Index.{of_index, reduce_answer, subgroup_gen_answer, to_point_answer, half_answer, add_answer};
+ghost use Rattle.circle.specs.Index.{sub_answer, neg_answer, mul_answer};
+ghost use Rattle.circle.specs.declared.index.CirclePointIndexAnswer.TheVariants.{Value};
+ghost use Rattle.taripomune.specs.Reply.{point_reply, index_reply};
+
+use taripomune::reply::{IndexReply, PointReply};
+
+#[unsafe(no_mangle)]
+pub extern "C" fn tari_index_zero() -> IndexReply
+    ensures { result ≡ index_reply (Value (of_index 0)) }
+{
+    taripomune::index::tari_index_zero()
+}
+
+#[unsafe(no_mangle)]
+pub extern "C" fn tari_index_generator() -> IndexReply
+    ensures { result ≡ index_reply (Value (of_index 1)) }
+{
+    taripomune::index::tari_index_generator()
+}
+
+#[unsafe(no_mangle)]
+pub extern "C" fn tari_index_reduce(index: u64) -> IndexReply
+    ensures { result ≡ index_reply (reduce_answer (of_index index)) }
+{
+    taripomune::index::tari_index_reduce(index)
+}
+
+#[unsafe(no_mangle)]
+pub extern "C" fn tari_index_subgroup_gen(log_size: u32) -> IndexReply
+    ensures { result ≡ index_reply (subgroup_gen_answer log_size) }
+{
+    taripomune::index::tari_index_subgroup_gen(log_size)
+}
+
+#[unsafe(no_mangle)]
+pub extern "C" fn tari_index_to_point(index: u64) -> PointReply
+    ensures { result ≡ point_reply (to_point_answer (of_index index)) }
+{
+    taripomune::index::tari_index_to_point(index)
+}
+
+#[unsafe(no_mangle)]
+pub extern "C" fn tari_index_half(index: u64) -> IndexReply
+    ensures { result ≡ index_reply (half_answer (of_index index)) }
+{
+    taripomune::index::tari_index_half(index)
+}
+
+#[unsafe(no_mangle)]
+pub extern "C" fn tari_index_add(a: u64, b: u64) -> IndexReply
+    ensures { result ≡ index_reply (add_answer (of_index a) (of_index b)) }
+{
+    taripomune::index::tari_index_add(a, b)
+}
+
+#[unsafe(no_mangle)]
+pub extern "C" fn tari_index_sub(a: u64, b: u64) -> IndexReply
+    ensures { result ≡ index_reply (sub_answer (of_index a) (of_index b)) }
+{
+    taripomune::index::tari_index_sub(a, b)
+}
+
+#[unsafe(no_mangle)]
+pub extern "C" fn tari_index_neg(index: u64) -> IndexReply
+    ensures { result ≡ index_reply (neg_answer (of_index index)) }
+{
+    taripomune::index::tari_index_neg(index)
+}
+
+#[unsafe(no_mangle)]
+pub extern "C" fn tari_index_mul(index: u64, count: u64) -> IndexReply
+    ensures { result ≡ index_reply (mul_answer (of_index index) count) }
+{
+    taripomune::index::tari_index_mul(index, count)
+}

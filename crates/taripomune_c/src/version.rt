@@ -1,0 +1,14 @@
+// The version of the C interface, TARI_VERSION of the header.
+ghost use Rattle.std.specs.Prelude.{◌≡◌};
+ghost use Rattle.fields.specs.declared.answer.U32Answer.TheVariants.{Value};
+ghost use Rattle.taripomune.specs.Reply.{u32_reply};
+ghost use Rattle.taripomune.specs.Version.{version};
+
+use taripomune::reply::U32Reply;
+
+#[unsafe(no_mangle)]
+pub extern "C" fn tari_version() -> U32Reply
+    ensures { result ≡ u32_reply (Value version) }
+{
+    taripomune::version::tari_version()
+}
