@@ -11,6 +11,8 @@ mod slices;
 mod values;
 
 use crate::arguments::Form;
+use std::io::Read;
+use std::{fs, io};
 
 #[derive(Clone, Copy)]
 struct Tally {
@@ -93,48 +95,38 @@ fn replayed_all(form: Form, text: &[u8]) -> Tally {
     t
 }
 
-fn report(name: &[u8], t: Tally) {
-    io::write_all(1, name);
-    io::write_all(1, b": ");
-    io::print_decimal(1, t.same);
-    io::write_all(1, b" answers as recorded, ");
-    io::print_decimal(1, t.different);
-    io::write_all(1, b" different\n");
+fn report(rt: &HostRuntime, name: &str, t: Tally) -> io::Result<()> {
+    println!(rt;
+        "{name}: {} answers as recorded, {} different",
+        t.same, t.different
+    )
 }
 
 // A list that fills the buffer may go on: it is reported as too long, and not replayed.
-fn replay(form: Form, name: &[u8]) {
-    let fd = os::open_read(name);
-    if fd < 0 {
-        os::fail(name);
-        return;
+fn replay(rt: &HostRuntime, form: Form, name: &str) -> io::Result<()> {
+    let mut text = Vec::new(rt.alloc());
+    fs::open(rt, name)?.take(65536).read_to_end(&mut text)?;
+    if text.len() == 65536 {
+        return println!(rt; "{name}: too long");
     }
-    let mut buffer = io::large_buffer();
-    let n = io::read_full(fd, &mut buffer);
-    libc::close(fd);
-    if n == 65536 {
-        io::write_all(1, name);
-        io::write_all(1, b": too long\n");
-        return;
-    }
-    report(name, replayed_all(form, &buffer[..n]));
+    report(rt, name, replayed_all(form, &text))
 }
 
-fn main() {
-    replay(Form::Words, b"version.txt");
-    replay(Form::Words, b"m31.txt");
-    replay(Form::Words, b"cm31.txt");
-    replay(Form::Words, b"qm31.txt");
-    replay(Form::Words, b"batch.txt");
-    replay(Form::Words, b"point.txt");
-    replay(Form::Words, b"secure_point.txt");
-    replay(Form::Words, b"index.txt");
-    replay(Form::Words, b"orders.txt");
-    replay(Form::Words, b"coset.txt");
-    replay(Form::Words, b"canonic_coset.txt");
-    replay(Form::Words, b"circle_domain.txt");
-    replay(Form::Words, b"contradicting_records.txt");
-    replay(Form::Words, b"transform.txt");
-    replay(Form::Rule, b"long_columns.txt");
-    replay(Form::Words, b"damaged.txt");
+fn main(rt: HostRuntime) -> io::Result<()> {
+    replay(&rt, Form::Words, "version.txt")?;
+    replay(&rt, Form::Words, "m31.txt")?;
+    replay(&rt, Form::Words, "cm31.txt")?;
+    replay(&rt, Form::Words, "qm31.txt")?;
+    replay(&rt, Form::Words, "batch.txt")?;
+    replay(&rt, Form::Words, "point.txt")?;
+    replay(&rt, Form::Words, "secure_point.txt")?;
+    replay(&rt, Form::Words, "index.txt")?;
+    replay(&rt, Form::Words, "orders.txt")?;
+    replay(&rt, Form::Words, "coset.txt")?;
+    replay(&rt, Form::Words, "canonic_coset.txt")?;
+    replay(&rt, Form::Words, "circle_domain.txt")?;
+    replay(&rt, Form::Words, "contradicting_records.txt")?;
+    replay(&rt, Form::Words, "transform.txt")?;
+    replay(&rt, Form::Rule, "long_columns.txt")?;
+    replay(&rt, Form::Words, "damaged.txt")
 }
