@@ -86,7 +86,7 @@ module _ {n : ℕ} {base : CirclePoint} where
   window_end {words} {digit} {p} t h = record {
     filled = sym (take_all (2 * digit) words (omega (arith, t.long))) ∙ sym (append-nil (take (2 * digit) words))
         ∙ ap (λ (m : ℕ). take (2 * digit) words ++ run m (point_of base) (point_of p)) none ∙ t.whole;
-    next_base_lem = t.point ∙ ap (λ (k : ℕ). multiple words31 k (point_of base)) all;
+    next_base = t.point ∙ ap (λ (k : ℕ). multiple words31 k (point_of base)) all;
     reduced = t.reduced;
   }
     where
@@ -181,7 +181,7 @@ module _ {table : List ℕ} {base : CirclePoint} {start window : ℕ} (t : Table
 
         rest : part ++ later (point_of next) ≡ windows_from (windows - window) window (point_of base)
         rest =
-            ap₂ (λ (words : List ℕ) (p : ℕ × ℕ). words ++ later p) f.filled f.next_base_lem
+            ap₂ (λ (words : List ℕ) (p : ℕ × ℕ). words ++ later p) f.filled f.next_base
             ∙ ap (λ (m : ℕ). run m (point_of base) (zero_point words31) ++ later (multiple words31 m (point_of base))) e
             ∙ sym (next_window window (point_of base) h)
 

@@ -80,5 +80,5 @@ pub record FillingWindow (n : ℕ) (words : List ℕ) (base : CirclePoint) : Typ
 
 pub record FilledWindow (n : ℕ) (base : CirclePoint) (words : List ℕ) (next : CirclePoint) : Type 0 where
   pub filled : words ≡ run n (point_of base) (zero_point words31)
-  pub next_base_lem : point_of next ≡ multiple words31 n (point_of base)
+  pub next_base : point_of next ≡ multiple words31 n (point_of base)
   pub reduced : Reduced next
