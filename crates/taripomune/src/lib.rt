@@ -1,4 +1,4 @@
-// The C interface: numbers and slices in, one struct of numbers out. include/taripomune.h declares it for C.
+// The calls of the C interface: numbers and slices in, one struct of numbers out. taripomune_c exports them.
 #![tactic(auto)]
 
 pub mod batch_inverse;

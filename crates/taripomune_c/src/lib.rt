@@ -1,5 +1,4 @@
-// The static library: each export calls the function of its name in taripomune, whose clauses it states again. C programs read
-// include/taripomune.h.
+// The static library: each export calls the function of its name in taripomune, and states its clauses again.
 #![tactic(auto)]
 
 pub mod batch_inverse;
