@@ -6,7 +6,8 @@ use Rattle.fields.specs.Words.{words31}
 use Rattle.circle.specs.Index.{index_point}
 use Rattle.domains.specs.Listing.{domain_index}
 
--- each point of the domain of log size n is the double of two of log size n + 1, for n from 1 to 29; `domain_doubled` of proofs/Doubled.antt proves it
+-- Each point of the domain of log size n is the double of two of log size n + 1. `domain_doubled` of proofs/Doubled.antt proves it
+-- for n from 1 to 29.
 pub record DomainDoubled (n : ℕ) : Type 0 where
   pub first_quarter : (i : ℕ) → i < 2 ^ (n - 1) → double words31 (index_point (domain_index (suc n) i)) ≡ index_point (domain_index n i)
   pub second_quarter : (i : ℕ) → i < 2 ^ (n - 1)
