@@ -1,6 +1,8 @@
 // Replays the recorded answers of data/ through the C entry points, and prints how many came out as recorded.
 #![tactic(auto)]
 
+ghost use Rattle.std.specs.Prelude.{◌≤◌, length, IfOk};
+
 mod arguments;
 mod calls;
 mod line;
@@ -11,8 +13,9 @@ mod slices;
 mod values;
 
 use crate::arguments::Form;
+use std::fs::File;
+use std::io;
 use std::io::Read;
-use std::{fs, io};
 
 #[derive(Clone, Copy)]
 struct Tally {
@@ -102,14 +105,30 @@ fn report(rt: &HostRuntime, name: &str, t: Tally) -> io::Result<()> {
     )
 }
 
+// Reads until the buffer is full or the file ends; how many bytes it read.
+fn read_full(file: &mut File, buffer: &mut [u8]) -> io::Result<usize>
+    ensures { IfOk result (λ n. n ≤ length buffer.new) }
+{
+    let mut done = 0;
+    while done < buffer.len() {
+        let n = file.read(&mut buffer[done..])?;
+        if n == 0 {
+            break;
+        }
+        done += n;
+    }
+    Ok(done)
+}
+
 // A list that fills the buffer may go on: it is reported as too long, and not replayed.
 fn replay(rt: &HostRuntime, form: Form, name: &str) -> io::Result<()> {
-    let mut text = Vec::new(rt.alloc());
-    fs::open(rt, name)?.take(65536).read_to_end(&mut text)?;
-    if text.len() == 65536 {
+    let mut buffer = [0u8; 65536];
+    let mut file = File::open(rt, name)?;
+    let n = read_full(&mut file, &mut buffer)?;
+    if n == 65536 {
         return println!(rt; "{name}: too long");
     }
-    report(rt, name, replayed_all(form, &text))
+    report(rt, name, replayed_all(form, &buffer[..n]))
 }
 
 fn main(rt: HostRuntime) -> io::Result<()> {
