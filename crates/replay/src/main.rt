@@ -1,4 +1,4 @@
-// Replays the recorded answers of data/ through the C entry points, and prints how many came out as recorded.
+// Replays the recorded answers of data/ through the calls of the C interface, and prints how many came out as recorded.
 #![tactic(auto)]
 
 ghost use Rattle.std.specs.Prelude.{◌≤◌, length, IfOk};
@@ -120,10 +120,14 @@ fn read_full(file: &mut File, buffer: &mut [u8]) -> io::Result<usize>
     Ok(done)
 }
 
-// A list that fills the buffer may go on: it is reported as too long, and not replayed.
+// A list that can't be opened is reported, and the next one follows. One that fills the buffer may go on: it is reported as
+// too long, and not replayed.
 fn replay(rt: &HostRuntime, form: Form, name: &str) -> io::Result<()> {
+    let mut file = match File::open(rt, name) {
+        Ok(file) => file,
+        Err(why) => return eprintln!(rt; "{name}: {why}"),
+    };
     let mut buffer = [0u8; 65536];
-    let mut file = File::open(rt, name)?;
     let n = read_full(&mut file, &mut buffer)?;
     if n == 65536 {
         return println!(rt; "{name}: too long");
