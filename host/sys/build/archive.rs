@@ -6,9 +6,13 @@ use std::env;
 use std::fs;
 use std::io::{self, BufRead, BufReader, Read};
 use std::path::{Path, PathBuf};
-use std::process::{Child, Command, Output, Stdio};
+use std::process::{self, Child, Command, Output, Stdio};
 use std::thread;
 use std::time::{Instant, SystemTime};
+
+/// The crate of the static library, and the command that proves and compiles it, there.
+const CRATE: &str = "crates/taripomune_c";
+const COMMAND: &str = "`rt lib` in crates/taripomune_c";
 
 /// Names the archive of the folder `TARIPOMUNE_LIB`, or else the repository's own, which is made here.
 pub fn link(root: &Path) {
@@ -27,9 +31,13 @@ pub fn link(root: &Path) {
         Some(_) if !archive.exists() => stop(&format!("{} (TARIPOMUNE_LIB) isn't there", archive.display())),
         Some(_) => {}
         None => {
-            println!("cargo::rerun-if-changed={}", root.join("crates").display());
+            println!("cargo::rerun-if-changed={}", root.join("crates.txt").display());
+            let sources = sources(&root.join("crates"));
+            for folder in &sources {
+                println!("cargo::rerun-if-changed={}", folder.display());
+            }
             let made = changed(&archive);
-            if made.is_none() || newest_source(&root.join("crates")) > made {
+            if made.is_none() || sources.iter().filter_map(|folder| newest_source(folder)).max() > made {
                 make(root, &archive);
             }
         }
@@ -38,61 +46,91 @@ pub fn link(root: &Path) {
     println!("cargo::rustc-link-lib=static=taripomune");
 }
 
-/// Proves the library and compiles it. What is proved already isn't proved again; from nothing it takes some minutes.
+/// Proves the library, compiles it and puts the archive into its place. What is proved already isn't proved again; from
+/// nothing it takes some minutes.
 fn make(root: &Path, archive: &Path) {
     let missing = format!("{} is missing or older than its sources", archive.display());
     let began = Instant::now();
-    let rt = match start(root) {
+    let folder = root.join(CRATE);
+    let rt = match start(&folder) {
         Ok(rt) => rt,
-        Err(error) if error.kind() == io::ErrorKind::NotFound => stop(&format!(
+        // A folder that isn't there is told by the same error.
+        Err(error) if error.kind() == io::ErrorKind::NotFound && folder.is_dir() => stop(&format!(
             "{missing}, and the Rattle toolchain that makes it isn't here: there is no `rt` on PATH.\n\
              Install the toolchain, or name the folder of an archive made elsewhere in TARIPOMUNE_LIB."
         )),
-        Err(error) => stop(&format!("{missing}, and `rt staticlib taripomune` can't be started: {error}")),
+        Err(error) => stop(&format!("{missing}, and {COMMAND} can't be started: {error}")),
     };
     let cargo = CargoError::open();
-    cargo.say("taripomune: proving the library with `rt staticlib taripomune`; from nothing this takes some minutes");
+    cargo.say(&format!("taripomune: proving the library with {COMMAND}; from nothing this takes some minutes"));
+    let mut verdicts = Verdicts::default();
     let tell = |line: &str| {
-        if is_verdict(line) {
-            cargo.say(line);
+        if let Some(name) = verdicts.proved(line) {
+            cargo.say(&format!("taripomune: proved {name}"));
         }
     };
     match follow(rt, tell) {
-        Err(error) => stop(&format!("{missing}, and `rt staticlib taripomune` can't be read: {error}")),
+        Err(error) => stop(&format!("{missing}, and {COMMAND} can't be read: {error}")),
         Ok(output) if !output.status.success() => stop(&format!(
-            "{missing}, and `rt staticlib taripomune` failed ({}):\n{}{}",
+            "{missing}, and {COMMAND} failed ({}):\n{}{}",
             output.status,
             String::from_utf8_lossy(&output.stdout),
             String::from_utf8_lossy(&output.stderr)
         )),
-        Ok(_) => cargo.say(&format!("taripomune: proved and compiled the library ({} s)", began.elapsed().as_secs())),
+        Ok(_) => {}
     }
+    if let Err(error) = put(&folder.join("out/libtaripomune_c.a"), archive) {
+        stop(&format!("{missing}, and what {COMMAND} made can't be put there: {error}"));
+    }
+    cargo.say(&format!("taripomune: proved and compiled the library ({} s)", began.elapsed().as_secs()));
 }
 
-fn start(root: &Path) -> io::Result<Child> {
+fn start(folder: &Path) -> io::Result<Child> {
     let mut command = Command::new("rt");
-    command.args(["staticlib", "taripomune"]).current_dir(root);
+    command.arg("lib").current_dir(folder);
     command.stdin(Stdio::null()).stdout(Stdio::piped()).stderr(Stdio::piped()).spawn()
 }
 
-/// Whether a line of rt's says that a crate is proved: `rt: NAME proved (65 s)`.
-fn is_verdict(line: &str) -> bool {
-    let mut words = line.split_whitespace();
-    words.next() == Some("rt:") && words.nth(1) == Some("proved")
+/// Copies a file to its place in one step, so that nobody finds a part of it there.
+fn put(made: &Path, place: &Path) -> io::Result<()> {
+    fs::create_dir_all(place.parent().unwrap())?;
+    let part = place.with_extension(format!("{}.part", process::id()));
+    let done = fs::copy(made, &part).and_then(|_| fs::rename(&part, place));
+    if done.is_err() {
+        let _ = fs::remove_file(&part);
+    }
+    done
 }
 
-/// What a process writes until it ends, each line of it shown as it comes.
-fn follow(mut process: Child, show: impl Fn(&str) + Sync) -> io::Result<Output> {
+/// Reads in rt's lines which crates are proved. It writes nothing of a crate that it needn't look at again.
+#[derive(Default)]
+struct Verdicts {
+    /// The crate that was named last.
+    name: String,
+}
+
+impl Verdicts {
+    /// The crate that a line says is proved: after `crate NAME: ..` comes `logic=proved ..`, else `logic=not-proved`.
+    fn proved(&mut self, line: &str) -> Option<&str> {
+        if let Some((name, _)) = line.strip_prefix("crate ").and_then(|rest| rest.split_once(':')) {
+            self.name = name.to_string();
+        }
+        line.starts_with("logic=proved ").then_some(&self.name)
+    }
+}
+
+/// What a process writes until it ends, each line of its standard output shown as it comes.
+fn follow(mut process: Child, show: impl FnMut(&str)) -> io::Result<Output> {
     let (stdout, stderr) = (process.stdout.take().unwrap(), process.stderr.take().unwrap());
     thread::scope(|scope| {
-        let errors = scope.spawn(|| lines(stderr, &show));
-        let stdout = lines(stdout, &show)?;
+        let errors = scope.spawn(|| lines(stderr, |_| {}));
+        let stdout = lines(stdout, show)?;
         let stderr = errors.join().unwrap()?;
         Ok(Output { status: process.wait()?, stdout, stderr })
     })
 }
 
-fn lines(stream: impl Read, show: &impl Fn(&str)) -> io::Result<Vec<u8>> {
+fn lines(stream: impl Read, mut show: impl FnMut(&str)) -> io::Result<Vec<u8>> {
     let mut stream = BufReader::new(stream);
     let (mut all, mut seen) = (Vec::new(), 0);
     while stream.read_until(b'\n', &mut all)? > 0 {
@@ -106,13 +144,25 @@ fn changed(file: &Path) -> Option<SystemTime> {
     fs::metadata(file).and_then(|found| found.modified()).ok()
 }
 
+/// The folders of the crates' code. Beside them rt keeps its own files, copies of the code among them.
+fn sources(crates: &Path) -> Vec<PathBuf> {
+    let mut folders: Vec<PathBuf> =
+        inside(crates).map(|folder| folder.join("src")).filter(|src| src.is_dir()).collect();
+    folders.sort();
+    folders
+}
+
 /// When a Rattle file below a folder was changed last.
 fn newest_source(folder: &Path) -> Option<SystemTime> {
-    let entries = fs::read_dir(folder).unwrap_or_else(|error| stop(&format!("{}: {error}", folder.display())));
     let newest = |path: PathBuf| match path.extension() {
         _ if path.is_dir() => newest_source(&path),
         Some(extension) if extension == "rt" => changed(&path),
         _ => None,
     };
-    entries.filter_map(|entry| newest(entry.ok()?.path())).max()
+    inside(folder).filter_map(newest).max()
+}
+
+fn inside(folder: &Path) -> impl Iterator<Item = PathBuf> {
+    let entries = fs::read_dir(folder).unwrap_or_else(|error| stop(&format!("{}: {error}", folder.display())));
+    entries.filter_map(|entry| Some(entry.ok()?.path()))
 }
