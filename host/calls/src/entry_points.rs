@@ -1,4 +1,4 @@
-//! The entry points of `crates/taripomune`: the contract of each, and what its names stand for.
+//! The entry points of `crates/taripomune_c`: the contract of each, and what its names stand for.
 
 use crate::imports::Imports;
 use crate::specs::{Named, words};
@@ -11,7 +11,7 @@ pub struct EntryPoint {
     pub file: String,
     /// The names of its parameters.
     pub parameters: Vec<String>,
-    /// What its contract says of the reply `r` and of the slices.
+    /// What its contract says of the reply `result` and of the slices.
     pub contract: Vec<String>,
     /// What of specs the contract names, in its order.
     pub names: Vec<Named>,
@@ -19,7 +19,7 @@ pub struct EntryPoint {
 
 /// The functions with C linkage.
 pub fn read(root: &Path) -> Vec<EntryPoint> {
-    let folder = root.join("crates/taripomune/src");
+    let folder = root.join("crates/taripomune_c/src");
     let mut files: Vec<_> = fs::read_dir(&folder).expect("the entry points are there").collect();
     files.sort_by_key(|entry| entry.as_ref().unwrap().file_name());
     let mut found = vec![];
@@ -28,7 +28,7 @@ pub fn read(root: &Path) -> Vec<EntryPoint> {
         let text = fs::read_to_string(folder.join(&name)).expect("an entry point can be read");
         let imports = Imports::read(&text);
         for function in text.split("pub extern \"C\" fn ").skip(1) {
-            found.push(entry_point(function, &imports, &format!("crates/taripomune/src/{name}")));
+            found.push(entry_point(function, &imports, &format!("crates/taripomune_c/src/{name}")));
         }
     }
     found
@@ -40,11 +40,9 @@ fn entry_point(function: &str, imports: &Imports, file: &str) -> EntryPoint {
     let list = rest.split_once(')').expect("parameters end").0;
     let parameters =
         list.split(',').filter_map(|parameter| Some(parameter.split_once(':')?.0.trim().to_string())).collect();
-    let ensures = function.split_once("ensures {").unwrap_or_else(|| panic!("{name} has no contract")).1;
-    let ensures = ensures.split_once("⌝ }").expect("a contract ends").0;
-    let contract = ensures.trim().strip_prefix("λ r. ⌜").unwrap_or_else(|| panic!("{name}'s contract isn't of r"));
+    let contract = contract_of(function).unwrap_or_else(|| panic!("{name} hasn't one contract"));
     let mut names: Vec<Named> = vec![];
-    for word in words(&contract.replace('\n', " ")) {
+    for word in words(&contract.replace('\n', " ")).map(|word| imports.without_fields(word)) {
         let Some((module, name)) = imports.resolve(word) else { continue };
         let named = Named { key: (module, name.to_string()), word: word.to_string() };
         if !names.contains(&named) {
@@ -53,6 +51,18 @@ fn entry_point(function: &str, imports: &Imports, file: &str) -> EntryPoint {
     }
     let contract = at_margin(contract);
     EntryPoint { name, file: file.to_string(), parameters, contract, names }
+}
+
+/// What stands in the braces of `ensures`. A function with several of them, or with a `requires`, has none.
+fn contract_of(function: &str) -> Option<&str> {
+    let (head, clause) = function.split_once("ensures {")?;
+    let mut open = 1;
+    let end = clause.find(|c| {
+        open += i32::from(c == '{') - i32::from(c == '}');
+        open == 0
+    })?;
+    let (contract, rest) = clause.split_at(end);
+    (!head.contains("requires") && rest.strip_prefix('}')?.trim_start().starts_with('{')).then_some(contract)
 }
 
 /// The lines of a contract from the left margin on, its first line's place being that of the word before it.

@@ -52,6 +52,15 @@ impl Imports {
         }
     }
 
+    /// A word without the fields that are taken of what it stands for: `a` of `a.x`, `X.a` of `X.a.x` where X is a module.
+    pub fn without_fields<'a>(&self, word: &'a str) -> &'a str {
+        let Some((head, rest)) = word.split_once('.') else { return word };
+        match self.aliases.get(head) {
+            Some(_) => &word[..head.len() + 1 + rest.find('.').unwrap_or(rest.len())],
+            None => head,
+        }
+    }
+
     /// The module and the name in it that a word of the file stands for, if it is taken from specs.
     pub fn resolve<'a>(&self, word: &'a str) -> Option<(Module, &'a str)> {
         if let Some(module) = self.names.get(word) {
@@ -62,8 +71,8 @@ impl Imports {
     }
 }
 
-/// `Rattle·fields.specs.Check`, or within the crate itself `Rattle·fields·specs.specs.Check`.
+/// `Rattle.fields.specs.Check`.
 fn module_of(path: &str) -> Option<Module> {
-    let (crate_name, name) = path.trim().strip_prefix("Rattle·")?.split_once(".specs.")?;
-    Some(Module::new(crate_name.trim_end_matches("·specs"), name))
+    let (crate_name, name) = path.trim().strip_prefix("Rattle.")?.split_once(".specs.")?;
+    Some(Module::new(crate_name, name))
 }

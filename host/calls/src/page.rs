@@ -133,8 +133,7 @@ impl Page<'_> {
 
 /// Whether a contract's name says what is answered or left: not one that only makes a record or a reply of numbers.
 fn is_shown(name: &str) -> bool {
-    let makes_a_record = name.starts_with("of") && name[2..].starts_with(char::is_uppercase);
-    !makes_a_record && !name.ends_with("OfNumbers") && !name.ends_with("Reply")
+    !name.starts_with("of_") && !name.ends_with("_of_numbers") && !name.ends_with("_reply")
 }
 
 fn anchor((module, name): &Key) -> String {

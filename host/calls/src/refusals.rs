@@ -3,7 +3,7 @@
 use crate::specs::{Key, Named, Specs};
 
 /// Where the cases of a refusal are declared.
-const CASES: &str = "declared.refusal.Refusal.the-variants";
+const CASES: &str = "declared.refusal.Refusal.TheVariants";
 
 /// The numbers of the refusals that definitions make, in the order in which their texts name them; of equal ones that
 /// follow one another, one.
@@ -39,11 +39,11 @@ fn number_of(specs: &Specs, case: &str) -> Option<u32> {
     cases(specs).into_iter().find(|(name, _)| name == case).map(|(_, number)| number)
 }
 
-/// The cases and their numbers, in the order of checking, as `numberOf` gives them.
+/// The cases and their numbers, in the order of checking, as `number_of` gives them.
 pub fn cases(specs: &Specs) -> Vec<(String, u32)> {
-    let is_number_of = |key: &Key| key.0.crate_name == "fields" && key.1 == "numberOf";
-    let (_, definition) = specs.definitions.iter().find(|(key, _)| is_number_of(key)).expect("numberOf is defined");
-    let equations = definition.text.iter().filter_map(|line| line.strip_prefix("numberOf ")?.split_once(" = "));
+    let is_number_of = |key: &Key| key.0.crate_name == "fields" && key.1 == "number_of";
+    let (_, definition) = specs.definitions.iter().find(|(key, _)| is_number_of(key)).expect("number_of is defined");
+    let equations = definition.text.iter().filter_map(|line| line.strip_prefix("number_of ")?.split_once(" = "));
     let case = |pattern: &str| pattern.trim_start_matches('(').split([' ', ')']).next().unwrap().to_string();
     equations.map(|(pattern, number)| (case(pattern), number.trim().parse().expect("a number"))).collect()
 }

@@ -57,7 +57,8 @@ impl Specs {
             let Some(name) = paragraph.name() else { continue };
             let bound = paragraph.bound();
             let lines = paragraph.context.iter().chain(&paragraph.code);
-            let words = lines.flat_map(|line| words(line)).filter(|word| !bound.contains(word));
+            let words = lines.flat_map(|line| words(line)).map(|word| imports.without_fields(word));
+            let words = words.filter(|word| !bound.contains(word));
             let key = |word: &str| match imports.resolve(word) {
                 Some((module, name)) => Some((module, name.to_string())),
                 None => own.contains(&word).then(|| (module.clone(), word.to_string())),
@@ -93,7 +94,7 @@ fn names_in(folder: &Path) -> Vec<String> {
 pub fn words(line: &str) -> impl Iterator<Item = &str> {
     let code = line.split("-- ").next().unwrap_or("");
     let words: Vec<&str> = code
-        .split(|c: char| c.is_whitespace() || "(){},;⌜⌝".contains(c))
+        .split(|c: char| c.is_whitespace() || "(){},;".contains(c))
         .map(|word| word.trim_end_matches('.'))
         .filter(|word| !word.is_empty())
         .collect();
