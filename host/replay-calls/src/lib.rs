@@ -18,6 +18,9 @@ pub const FOLDER: &str = "crates/replay/src";
 /// The first line of every file.
 const HEAD: &str = "// Written by host/replay-calls from include/taripomune.h.";
 
+/// How long a line may be.
+const WIDTH: usize = 100;
+
 /// The files by name, in `rt fmt`'s layout.
 pub fn files(root: &Path) -> BTreeMap<String, String> {
     let library = Library::read(root);
@@ -77,22 +80,50 @@ fn arms(prototypes: &[&Prototype], first: usize, call: impl Fn(&Prototype) -> (S
         let reply = replies::function(&prototype.reply);
         let list = arguments.join(", ");
         let line = format!("        {place} => {reply}({function}({list})),\n");
-        if line.len() <= 101 && list.len() <= 60 {
+        if line.len() <= WIDTH + 1 && list.len() <= 60 {
             return line;
         }
-        let list: String = arguments.iter().map(|argument| format!("            {argument},\n")).collect();
+        let is_name = |argument: &String| argument.chars().all(|c| c.is_ascii_alphanumeric());
+        let list = match arguments.iter().all(is_name) {
+            true => filled(&arguments, 12),
+            false => arguments.iter().map(|argument| format!("            {argument},\n")).collect(),
+        };
         format!("        {place} => {reply}({function}(\n{list}        )),\n")
     };
     let arms: String = prototypes.iter().enumerate().map(arm).collect();
     format!("    match place {{\n{arms}        _ => unknown(),\n    }}\n")
 }
 
-/// The lines that bring names into a file.
+/// The lines that bring names into a file, one for the names of a module.
 fn uses(names: impl IntoIterator<Item = String>) -> String {
-    let mut names: Vec<String> = names.into_iter().collect();
-    names.sort();
-    names.dedup();
-    names.iter().map(|name| format!("use {name};\n")).collect()
+    let mut modules: BTreeMap<String, Vec<String>> = BTreeMap::new();
+    for path in names {
+        let (module, name) = path.rsplit_once("::").expect("a name has a module");
+        modules.entry(module.to_string()).or_default().push(name.to_string());
+    }
+    let line = |(module, mut names): (String, Vec<String>)| {
+        names.sort();
+        names.dedup();
+        let list = names.join(", ");
+        match names.len() {
+            1 => format!("use {module}::{list};\n"),
+            _ if module.len() + list.len() + 9 <= WIDTH => format!("use {module}::{{{list}}};\n"),
+            _ => format!("use {module}::{{\n{}}};\n", filled(&names, 4)),
+        }
+    };
+    modules.into_iter().map(line).collect()
+}
+
+/// Words with a comma after each, as many a line as fit.
+fn filled(words: &[String], indent: usize) -> String {
+    let mut lines: Vec<String> = vec![];
+    for word in words {
+        match lines.last_mut() {
+            Some(line) if line.len() + word.len() + 2 <= WIDTH => *line += &format!(" {word},"),
+            _ => lines.push(format!("{:indent$}{word},", "")),
+        }
+    }
+    lines.join("\n") + "\n"
 }
 
 fn replies_used(prototypes: &[&Prototype]) -> Vec<String> {
