@@ -38,11 +38,13 @@ fn entry_point(function: &str, imports: &Imports, file: &str) -> EntryPoint {
     let (name, rest) = function.split_once('(').expect("a function has parameters");
     let name = name.to_string();
     let list = rest.split_once(')').expect("parameters end").0;
-    let parameters =
+    let parameters: Vec<String> =
         list.split(',').filter_map(|parameter| Some(parameter.split_once(':')?.0.trim().to_string())).collect();
     let contract = contract_of(function).unwrap_or_else(|| panic!("{name} hasn't one contract"));
     let mut names: Vec<Named> = vec![];
-    for word in words(&contract.replace('\n', " ")).map(|word| imports.without_fields(word)) {
+    let said = contract.replace('\n', " ");
+    let words = words(&said).map(|word| imports.without_fields(word));
+    for word in words.filter(|word| !parameters.iter().any(|parameter| parameter == word)) {
         let Some((module, name)) = imports.resolve(word) else { continue };
         let named = Named { key: (module, name.to_string()), word: word.to_string() };
         if !names.contains(&named) {
