@@ -66,7 +66,7 @@ fn make(root: &Path, archive: &Path) {
     let mut verdicts = Verdicts::default();
     let tell = |line: &str| {
         if let Some(name) = verdicts.proved(line) {
-            cargo.say(&format!("taripomune: proved {name}"));
+            cargo.say(&format!("taripomune: proved the crate {name}"));
         }
     };
     match follow(rt, tell) {
