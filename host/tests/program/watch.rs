@@ -2,6 +2,7 @@
 
 use crate::support::*;
 use std::fs;
+use std::io::ErrorKind;
 use std::os::unix::fs::{FileExt, symlink};
 use std::os::unix::net::UnixDatagram;
 use std::process::{Command, Stdio};
@@ -103,17 +104,25 @@ fn a_file_that_is_still_written_to_is_not_taken() {
     unit.assert_whole(&["a"]);
 }
 
+/// The next message. A waiting with a time limit that a signal interrupts is begun again.
+fn received(socket: &UnixDatagram) -> String {
+    let mut buffer = [0; 100];
+    let length = loop {
+        match socket.recv(&mut buffer) {
+            Err(error) if error.kind() == ErrorKind::Interrupted => {}
+            length => break length.unwrap(),
+        }
+    };
+    String::from_utf8(buffer[..length].to_vec()).unwrap()
+}
+
 #[test]
 fn a_heartbeat_is_told_to_people_and_to_the_supervisor() {
     let unit = Unit::with("watch-heartbeat", &["a"]);
     let path = unit.folder.path("socket");
     let socket = UnixDatagram::bind(&path).unwrap();
     socket.set_read_timeout(Some(Duration::from_secs(30))).unwrap();
-    let message = || {
-        let mut buffer = [0; 100];
-        let length = socket.recv(&mut buffer).unwrap();
-        String::from_utf8(buffer[..length].to_vec()).unwrap()
-    };
+    let message = || received(&socket);
     let mut command = unit.command(&["--watch", "--json", "--heartbeat=1"]);
     let watching = Watching::start(command.env("NOTIFY_SOCKET", &path));
     assert_eq!(message(), "READY=1");
@@ -142,8 +151,7 @@ fn a_supervisor_gets_signs_of_life_as_often_as_it_asks() {
     socket.set_read_timeout(Some(Duration::from_secs(30))).unwrap();
     let mut command = unit.command(&["--watch", "--heartbeat", "3600"]);
     let _watching = Watching::start(command.env("NOTIFY_SOCKET", &path).env("WATCHDOG_USEC", "2000000"));
-    let mut buffer = [0; 100];
-    let sizes = [(); 3].map(|()| socket.recv(&mut buffer).unwrap());
+    let sizes = [(); 3].map(|()| received(&socket).len());
     assert_eq!(sizes, ["READY=1", "WATCHDOG=1", "WATCHDOG=1"].map(str::len));
 }
 
