@@ -4,15 +4,15 @@ ghost use Rattle.circle.specs.Table.{table_words};
 
 use crate::point_table::WORDS;
 
-// A function that names a constant array copies it to its stack. Readers therefore copy the table once and look up all
-// that they need in the copy.
+// Behind a reference the constant lies in read-only memory: a function that names a constant array by itself clears and
+// fills it on its stack. Readers take the table once and look up all that they need in it.
 pub fn points() -> [u32; WORDS]
     ensures { result ≡ table_words }
 {
-    POINTS
+    *POINTS
 }
 
-const POINTS: [u32; WORDS] = [
+const POINTS: &[u32; WORDS] = &[
     1, 0, 2, 1268011823, 7, 777079998, 26, 1840308169, 97, 141701737, 362, 873982426, 1351,
     1206744320, 5042, 1805511207, 18817, 1720333214, 70226, 780854355, 262087, 1403084206, 978122,
     536515175, 3650401, 742976494, 13623482, 287907154, 50843527, 408652122, 189750626, 1346701334,
