@@ -9,8 +9,8 @@ use std::os::unix::fs::PermissionsExt;
 use std::process::{Command, Stdio};
 use support::{Folder, output, root, succeed};
 
-const START: &str =
-    "taripomune: proving the library with `rt lib` in crates/taripomune_c; from nothing this takes some minutes";
+const START: &str = "taripomune: proving the library with `rt lib --cpu x86-64` in crates/taripomune_c; \
+                     from nothing this takes some minutes";
 
 /// Writes what `rt lib` writes, and waits after the second crate, for ten seconds at most, until there is a file `go`.
 const SLOW: &str = "\

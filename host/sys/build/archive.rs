@@ -10,9 +10,10 @@ use std::process::{self, Child, Command, Output, Stdio};
 use std::thread;
 use std::time::{Instant, SystemTime};
 
-/// The crate of the static library, and the command that proves and compiles it, there.
+/// The crate of the static library, and the command that proves and compiles it, there: for every processor, since a
+/// static library doesn't see what its own has.
 const CRATE: &str = "crates/taripomune_c";
-const COMMAND: &str = "`rt lib` in crates/taripomune_c";
+const COMMAND: &str = "`rt lib --cpu x86-64` in crates/taripomune_c";
 
 /// Names the archive of the folder `TARIPOMUNE_LIB`, or else the repository's own, which is made here.
 pub fn link(root: &Path) {
@@ -87,7 +88,7 @@ fn make(root: &Path, archive: &Path) {
 
 fn start(folder: &Path) -> io::Result<Child> {
     let mut command = Command::new("rt");
-    command.arg("lib").current_dir(folder);
+    command.args(["lib", "--cpu", "x86-64"]).current_dir(folder);
     command.stdin(Stdio::null()).stdout(Stdio::piped()).stderr(Stdio::piped()).spawn()
 }
 
