@@ -107,7 +107,7 @@ fn an_archive_that_rt_has_not_made_is_missed() {
     let output = output(&mut check(&folder));
     let told = String::from_utf8_lossy(&output.stderr);
     assert!(!output.status.success());
-    assert!(told.contains("and what `rt lib` in crates/taripomune_c made can't be put there: "), "{told}");
+    assert!(told.contains("and what `rt lib --cpu x86-64` in crates/taripomune_c made can't be put there: "), "{told}");
     assert_eq!(fs::read_dir(folder.path("target/staticlib")).unwrap().count(), 0);
 }
 
