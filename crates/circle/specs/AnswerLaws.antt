@@ -63,7 +63,7 @@ y3_below p u e h = (secure_below p u e h).1.1.1
 pub secure_value : (p : SecureCirclePoint) (q : quartic_words.El × quartic_words.El) → S.point_of p ≡ q → SA.Value p ≡ SA.Value (S.of_point q)
 secure_value p q e = ap (λ (t : quartic_words.El × quartic_words.El). SA.Value (S.of_point t)) e
 
-pub ruleset securePoints = (x0_below, x1_below, x2_below, x3_below, y0_below, y1_below, y2_below, y3_below, secure_value)
+pub ruleset secure_points = (x0_below, x1_below, x2_below, x3_below, y0_below, y1_below, y2_below, y3_below, secure_value)
 
 -- indices
 pub index_fits : (k : CirclePointIndex) (u : Bool) → u ≡ is_index k → not u ≡ false → IsIndex k

@@ -58,11 +58,11 @@ ScratchExit Written n scratch exit = (length exit ≡ length scratch) × (drop (
 ScratchExit (Refused why) n scratch exit = exit ≡ scratch
 
 -- what an evaluation leaves of the column and of scratch
-pub record Evaluated (n : ℕ) (column scratch columnExit scratchExit : List ℕ) : Type 0 where
-  pub column_left : columnExit ≡ evaluate_exit (transform_answer n column (length scratch)) n column
-  pub scratch_left : ScratchExit (transform_answer n column (length scratch)) n scratch scratchExit
+pub record Evaluated (n : ℕ) (column scratch column_exit scratch_exit : List ℕ) : Type 0 where
+  pub column_left : column_exit ≡ evaluate_exit (transform_answer n column (length scratch)) n column
+  pub scratch_left : ScratchExit (transform_answer n column (length scratch)) n scratch scratch_exit
 
 -- what an interpolation leaves of the column and of scratch
-pub record Interpolated (n : ℕ) (column scratch columnExit scratchExit : List ℕ) : Type 0 where
-  pub column_left : InterpolateExit (transform_answer n column (length scratch)) n column columnExit
-  pub scratch_left : ScratchExit (transform_answer n column (length scratch)) n scratch scratchExit
+pub record Interpolated (n : ℕ) (column scratch column_exit scratch_exit : List ℕ) : Type 0 where
+  pub column_left : InterpolateExit (transform_answer n column (length scratch)) n column column_exit
+  pub scratch_left : ScratchExit (transform_answer n column (length scratch)) n scratch scratch_exit

@@ -4,7 +4,7 @@ use Rattle.circle.specs.Formulas.{signed_multiple, least}
 use Rattle.circle.specs.SecurePoint.{point_of}
 use Rattle.circle.specs.SecurePoint.{mul_signed_answer}
 use Rattle.fields.specs.AnswerLaws.{answers}
-use Rattle.circle.specs.AnswerLaws.{securePoints}
+use Rattle.circle.specs.AnswerLaws.{secure_points}
 use Rattle.circle.proofs.secure_point.SecureCirclePoint.mul_signed.Goals as goal
 
 pub returns-then-is_least : goal.returns-then-is_least
@@ -18,10 +18,10 @@ returns-then-not-is_reduced c = let least-off = c.is_least.ensures ∙ ap least 
     search (answers, rules)
 
 pub mul_signed-requires : goal.mul_signed-requires
-mul_signed-requires c = search (answers, securePoints, rules)
+mul_signed-requires c = search (answers, secure_points, rules)
 
 pub returns : goal.returns
 unfolding mul_signed_answer
 returns c = let least-off = c.is_least.ensures ∙ ap least (to_z-of_z c.ranges.off) in
     let product = c.mul_signed.ensures.0 ∙ ap (λ (x : ℤ). signed_multiple quartic_words x (point_of c.args.self)) (to_z-of_z c.ranges.off) in
-    search (answers, securePoints, rules)
+    search (answers, secure_points, rules)
