@@ -40,7 +40,8 @@ fn copy(name: &str, script: &str) -> Folder {
         succeed(Command::new("cp").arg("-R").arg(root().join(part)).arg(folder.path(place)));
     }
     fs::write(folder.path("host/Cargo.toml"), "workspace = { resolver = \"3\", members = [\"sys\"] }\n").unwrap();
-    fs::write(folder.path("bin/rt"), format!("#!/bin/sh\n{script}")).unwrap();
+    let asked = "[ \"$*\" = 'lib --cpu x86-64' ] || exit 1\n";
+    fs::write(folder.path("bin/rt"), format!("#!/bin/sh\n{asked}{script}")).unwrap();
     fs::set_permissions(folder.path("bin/rt"), fs::Permissions::from_mode(0o755)).unwrap();
     folder
 }
