@@ -105,7 +105,8 @@ pub half_two : (k : ℕ) → (half_point 2 k).1 ≡ neg_p (half_point 2 k).0
 half_two k =
     m31_representation.injective y (neg_p x) (index_below (half_index 2 k)).1 (m31_representation.neg-reduced x)
     (solve_from m31 m31_laws (element x ∷ element y ∷ [])
-    (given (:- v1) (double_x exprs v0) Expr.:0 ∷ given v0 (two exprs :* (v0 :* v1)) (:- Expr.:1) ∷ []) (x_zero, (xy_minus, tt)) v1 (:- v0) tt
+    (given (:- v1) (double_x exprs v0) Expr.:0 ∷ given v0 (two exprs :* (v0 :* v1)) (:- Expr.:1) ∷ []) (x_zero, (xy_minus, tt)) v1
+    (:- v0) tt
     ∙ sym (element_homomorphism.to_neg x))
   where
     x : ℕ

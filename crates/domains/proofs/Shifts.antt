@@ -32,7 +32,8 @@ next f i [] h = absurd (N.not-suc-le-zero h)
 next f zero (x ∷ l) h = refl
 next f (suc i) (x ∷ l) h = ap (λ (t : List ℕ). f 0 ∷ t) (next (λ k. f (suc k)) i l (N.le_of_suc-le-suc h))
 
-pub listing_next : (f : ℕ → ℕ) (i v : ℕ) (l m : List ℕ) → m ≡ listing i f ++ drop i l → v ≡ f i → i < length l → set m i v ≡ listing (i + 1) f ++ drop (i + 1) l
+pub listing_next : (f : ℕ → ℕ) (i v : ℕ) (l m : List ℕ) → m ≡ listing i f ++ drop i l → v ≡ f i → i < length l → set m i v ≡ listing
+    (i + 1) f ++ drop (i + 1) l
 listing_next f i v l m e g h = rw (e, g, add-one) (next f i l h)
 
 -- ---- what a split answers and leaves; r is what the checks of the half coset said

@@ -55,7 +55,8 @@ module _ (c : Coset) (index word each : Check) (e : index ≡ outcome (indices c
     pub each_fits : each ≡ Passed → (IsIndex c.initial_index) × (IsIndex c.step_size)
     each_fits h = indices_fit c (hold_split (indices c) (words c) (passed_hold (indices c ++ words c) each each_said h)).0
 
-pub check_said : (c : Coset) (size rest r : Check) → size ≡ outcome (log_size c) → rest ≡ outcome (indices_and_points c) → r ≡ in_turn size rest
+pub check_said : (c : Coset) (size rest r : Check) → size ≡ outcome (log_size c) → rest ≡ outcome (indices_and_points c) → r ≡
+    in_turn size rest
     → r ≡ outcome (check c)
 unfolding check
 check_said c = in_turn_lem (log_size c) (indices_and_points c)

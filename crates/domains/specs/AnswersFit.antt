@@ -158,7 +158,8 @@ cond_has Has false x y h k = k
 -- ---- indices
 
 pub index_answers : IndexAnswers
-unfolding Index.reduce_answer Index.subgroup_gen_answer Index.half_answer Index.add_answer Index.sub_answer Index.neg_answer Index.mul_answer
+unfolding Index.reduce_answer Index.subgroup_gen_answer Index.half_answer Index.add_answer Index.sub_answer Index.neg_answer
+    Index.mul_answer
 index_answers = record {
   reduce = λ k. index_answer (in_range k) (of_index (k.0 % 2 ^ 31)) (λ h. omega arith);
   subgroup_gen = λ n. index_answer (need (leb n 31) LogSize) (of_index (subgroup_gen n)) (λ h. subgroup_gen_index n);

@@ -32,7 +32,8 @@ reversed_fields k (suc m) x = reversed_fields k m (x / 2 ^ k) * 2 ^ k + reverse_
 low_field : (k y e : ℕ) → bit_and y (e * 2 ^ (k + k) + (2 ^ k - 1)) ≡ bit_and (y / 2 ^ (k + k)) e * 2 ^ (k + k) + y % 2 ^ k
 low_field k y e =
     ap (λ (n : ℕ). bit_and n (e * 2 ^ (k + k) + (2 ^ k - 1))) (sym (W.split y (k + k)))
-    ∙ and_block (k + k) (y / 2 ^ (k + k)) e (y % 2 ^ (k + k)) (2 ^ k - 1) (N.mod-lt y (W.pow_pos (k + k))) (N.lt_of_lt_of_le (W.ones_lt k) (W.pow_mono (N.le-add_right k k)))
+    ∙ and_block (k + k) (y / 2 ^ (k + k)) e (y % 2 ^ (k + k)) (2 ^ k - 1) (N.mod-lt y (W.pow_pos (k + k))) (N.lt_of_lt_of_le
+    (W.ones_lt k) (W.pow_mono (N.le-add_right k k)))
     ∙ ap (λ (n : ℕ). bit_and (y / 2 ^ (k + k)) e * 2 ^ (k + k) + n) (and_mask (y % 2 ^ (k + k)) k ∙ W.mod-mod-pow y k k)
 
 shift_swap : (k y : ℕ) → y / 2 ^ k / 2 ^ (k + k) ≡ y / 2 ^ (k + k) / 2 ^ k
@@ -42,7 +43,8 @@ step_is : (k m y : ℕ) → step (low_halves k m) k y ≡ exchanged k m y
 unfolding low_halves exchanged
 step_is k zero y = ap₂ (λ (p q : ℕ). p * 2 ^ k + q) (and_zero_r y) (and_zero_r (y / 2 ^ k)) ∙ omega arith
 step_is k (suc m) y =
-    ap₂ (λ (p q : ℕ). p * 2 ^ k + q) (low_field k y e) (low_field k (y / 2 ^ k) e ∙ ap (λ (n : ℕ). bit_and n e * 2 ^ (k + k) + y / 2 ^ k % 2 ^ k) (shift_swap k y))
+    ap₂ (λ (p q : ℕ). p * 2 ^ k + q) (low_field k y e) (low_field k (y / 2 ^ k) e ∙ ap (λ (n : ℕ). bit_and n e * 2 ^ (k + k) + y / 2
+    ^ k % 2 ^ k) (shift_swap k y))
     ∙ shape (bit_and (y / 2 ^ (k + k)) e) (bit_and (y / 2 ^ (k + k) / 2 ^ k) e) (2 ^ (k + k)) (2 ^ k) (y % 2 ^ k) (y / 2 ^ k % 2 ^ k)
     ∙ ap (λ (n : ℕ). n * 2 ^ (k + k) + (y % 2 ^ k * 2 ^ k + y / 2 ^ k % 2 ^ k)) (step_is k m (y / 2 ^ (k + k)))
   where
@@ -50,7 +52,14 @@ step_is k (suc m) y =
     e = low_halves k m
 
     shape : (a b p q u v : ℕ) → (a * p + u) * q + (b * p + v) ≡ (a * q + b) * p + (u * q + v)
-    shape a b p q u v = omega (arith, N.add-mul (a * p) u q, N.add-mul (a * q) b p, N.mul_assoc a p q, N.mul_assoc a q p, ap (λ (t : ℕ). a * t) (N.mul_comm p q))
+    shape a b p q u v = omega (
+      arith,
+      N.add-mul (a * p) u q,
+      N.add-mul (a * q) b p,
+      N.mul_assoc a p q,
+      N.mul_assoc a q p,
+      ap (λ (t : ℕ). a * t) (N.mul_comm p q),
+    )
 
 -- fields of k bits in reverse, halves changed over, are fields of k + k bits in reverse
 exchanged_fields : (k m x : ℕ) → exchanged k m (reversed_fields k (m + m) x) ≡ reversed_fields (k + k) m x
@@ -58,7 +67,8 @@ unfolding exchanged reversed_fields
 exchanged_fields k zero x = refl
 exchanged_fields k (suc m) x =
     ap (λ (n : ℕ). exchanged k (suc m) (reversed_fields k n x)) (N.suc-add m (suc m) ∙ ap suc (N.add-suc m m))
-    ∙ ap₂ (λ (p q : ℕ). p * 2 ^ (k + k) + q) (ap (exchanged k m) upper ∙ exchanged_fields k m (x / 2 ^ (k + k))) (ap₂ (λ (p q : ℕ). p * 2 ^ k + q) lowest second ∙ sym (reversed_parts k k x))
+    ∙ ap₂ (λ (p q : ℕ). p * 2 ^ (k + k) + q) (ap (exchanged k m) upper ∙ exchanged_fields k m (x / 2 ^ (k + k)))
+    (ap₂ (λ (p q : ℕ). p * 2 ^ k + q) lowest second ∙ sym (reversed_parts k k x))
   where
     low : ℕ
     low = reverse_bits k x

@@ -42,8 +42,10 @@ module _ (eval domain : ℕ) (least : 1 ≤ eval) (most : eval ≤ 30) where
       omega (arith, N.mul-le-mul h power)
 
   -- the call's three steps together
-  pub offset_is : (i : ℕ) (back : Bool) (steps p q r : ℕ) → p ≡ bit_reverse_index i eval → q ≡ offset_element back (2 ^ (eval - 1)) p (steps * 2 ^ (eval - domain - 1)) → r ≡ bit_reverse_index q eval → r ≡ offset_index i domain eval back steps
+  pub offset_is : (i : ℕ) (back : Bool) (steps p q r : ℕ) → p ≡ bit_reverse_index i eval → q ≡ offset_element back (2 ^ (eval - 1))
+      p (steps * 2 ^ (eval - domain - 1)) → r ≡ bit_reverse_index q eval → r ≡ offset_index i domain eval back steps
   offset_is i back steps p q r e f g =
       g
       ∙ index_from_one q eval least
-      ∙ ap (reverse_bits eval) (f ∙ ap (λ (t : ℕ). offset_element back (2 ^ (eval - 1)) t (steps * 2 ^ (eval - domain - 1))) (e ∙ index_from_one i eval least))
+      ∙ ap (reverse_bits eval) (f ∙ ap (λ (t : ℕ). offset_element back (2 ^ (eval - 1)) t (steps * 2 ^ (eval - domain - 1)))
+      (e ∙ index_from_one i eval least))

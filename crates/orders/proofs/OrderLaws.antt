@@ -83,7 +83,11 @@ second_to_coset size i h = rw (le-ltb i (size / 2) h)
 
 -- a number is 2x or 2x + 1
 pub by_parity : (C : ℕ → Type 0) → ((x : ℕ) → C (2 * x)) → ((x : ℕ) → C (2 * x + 1)) → (k : ℕ) → C k
-by_parity C even odd k = elim (dec_lt (k % 2) 1) [ yes l ↦ subst C (even_half l) (even (k / 2)) | no g ↦ subst C (odd_half g) (odd (k / 2)) ]
+by_parity C even odd k = elim (dec_lt (k % 2) 1) [
+  | yes l ↦ subst C (even_half l) (even (k / 2))
+  | no g ↦ subst C (odd_half g)
+      (odd (k / 2))
+]
   where
     even_half : k % 2 < 1 → 2 * (k / 2) ≡ k
     even_half l = omega arith

@@ -27,7 +27,8 @@ module _ (count w : ℕ) (F : ℕ → List ℕ → List ℕ) (i : ℕ) (c : List
   turn_end b column t h = let all : b ≡ count = omega (arith, t.before) in t.is ∙ ap (λ (n : ℕ). blocks n w F i c) all
 
   -- in a turn
-  module _ (size : length c ≡ count * w) (b : ℕ) (column : List ℕ) (t : Turn b column) (h : b < count) (start end : ℕ) (es : start ≡ b * w) (ee : end ≡ start + w) where
+  module _ (size : length c ≡ count * w) (b : ℕ) (column : List ℕ) (t : Turn b column) (h : b < count) (start end : ℕ) (es : start ≡
+      b * w) (ee : end ≡ start + w) where
     room : suc b * w ≤ length c
     room = omega (arith, N.mul-le-mul_right {m = suc b} {n = count} w h, size)
 
@@ -70,13 +71,21 @@ module _ (count w : ℕ) (F : ℕ → List ℕ → List ℕ) (i : ℕ) (c : List
   pub partly_same : (b : ℕ) (column : List ℕ) → PartlyTurn b column → length column ≡ length c
   partly_same b column t = sym (reduced-length column) ∙ t.turn.same ∙ reduced-length c
 
-  module _ (size : length c ≡ count * w) (b : ℕ) (column : List ℕ) (t : PartlyTurn b column) (h : b < count) (start end : ℕ) (es : start ≡ b * w) (ee : end ≡ start + w) where
+  module _ (size : length c ≡ count * w) (b : ℕ) (column : List ℕ) (t : PartlyTurn b column) (h : b < count) (start end : ℕ)
+      (es : start ≡ b * w) (ee : end ≡ start + w) where
     whole : length (reduced_words c) ≡ count * w
     whole = reduced-length c ∙ size
 
     pub partly_inside : (end ≤ length column) × (length column ≡ length c)
-    partly_inside =
-        (omega (arith, inside count w F i (reduced_words c) whole b (reduced_words column) t.turn h start end es ee, reduced-length column), partly_same b column t)
+    partly_inside = (
+      omega (
+        arith,
+        inside count w F i (reduced_words c) whole b (reduced_words column) t.turn h start end es ee,
+        reduced-length
+            column,
+      ),
+      partly_same b column t,
+    )
 
     pub partly_part_length : length (take (end - start) (drop start column)) ≡ w
     partly_part_length =
@@ -86,7 +95,8 @@ module _ (count w : ℕ) (F : ℕ → List ℕ → List ℕ) (i : ℕ) (c : List
     pub partly_part : PartlyReduced (take (end - start) (drop start column))
     partly_part = partly_take (end - start) (drop start column) (partly_drop start column t.partly)
 
-    pub partly_next : Keeps w F → (q : List ℕ) → reduced_words q ≡ F (i + b) (reduced_words (take (end - start) (drop start column))) → PartlyReduced q
+    pub partly_next : Keeps w F → (q : List ℕ) → reduced_words q ≡ F (i + b) (reduced_words (take (end - start) (drop start
+        column))) → PartlyReduced q
         → PartlyTurn (b + 1) (take start column ++ (q ++ drop (end - start) (drop start column)))
     partly_next keeps q e p = record {
       turn = subst (Turn count w F i (reduced_words c) (b + 1)) (sym (reduced_spliced start (end - start) column q))
@@ -102,5 +112,6 @@ spliced_prefix column q rest n m s h e es wc wq =
     let first : length (take n column) ≡ n = length-take-le n column h in
     let at : s ≡ length (take n column) + m = omega arith in
     let is : take s (take n column ++ (q ++ rest)) ≡ take n column ++ q =
-    ap (λ (k : ℕ). take k (take n column ++ (q ++ rest))) at ∙ take-append-add (take n column) (q ++ rest) m ∙ ap (λ (l : List ℕ). take n column ++ l) (take_at q rest m e) in
+    ap (λ (k : ℕ). take k (take n column ++ (q ++ rest))) at ∙ take-append-add (take n column) (q ++ rest) m ∙ ap (λ (l : List ℕ).
+    take n column ++ l) (take_at q rest m e) in
     λ k. rw is (words_append (take n column) q wc wq k)

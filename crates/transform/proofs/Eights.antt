@@ -39,9 +39,11 @@ module _ (l : List ℕ) (e : length l ≡ 8) where
         ∙ ap₂ ◌++◌ ef (append-nil r ∙ eg ∙ ap g second)
 
     -- the same on what partly reduced words stand for
-    pub partly_parts : (f g : List ℕ → List ℕ) (r : List ℕ) → reduced_words q ≡ f (reduced_words (take (4 - 0) (drop 0 l))) → PartlyReduced q
+    pub partly_parts : (f g : List ℕ → List ℕ) (r : List ℕ) → reduced_words q ≡ f (reduced_words (take (4 - 0) (drop 0 l))) →
+        PartlyReduced q
         → reduced_words r ≡ g (reduced_words (take (8 - 4) (drop 4 middle))) → PartlyReduced r
-        → (reduced_words (take 4 middle ++ (r ++ drop (8 - 4) (drop 4 middle))) ≡ f (take 4 (reduced_words l)) ++ g (drop 4 (reduced_words l)))
+        → (reduced_words (take 4 middle ++ (r ++ drop (8 - 4) (drop 4 middle))) ≡ f (take 4 (reduced_words l)) ++ g
+        (drop 4 (reduced_words l)))
         × PartlyReduced (take 4 middle ++ (r ++ drop (8 - 4) (drop 4 middle)))
     partly_parts f g r ef pq eg pr =
         let parts = both_parts (λ (d : List ℕ). q) (λ (d : List ℕ). r) r refl refl in (
@@ -51,7 +53,8 @@ module _ (l : List ℕ) (e : length l ≡ 8) where
         )
 
 -- four words and four words
-pub eight-length : (f g : List ℕ → List ℕ) → ((d : List ℕ) → length d ≡ 4 → length (f d) ≡ 4) → ((d : List ℕ) → length d ≡ 4 → length (g d) ≡ 4)
+pub eight-length : (f g : List ℕ → List ℕ) → ((d : List ℕ) → length d ≡ 4 → length (f d) ≡ 4) → ((d : List ℕ) → length d ≡ 4 →
+    length (g d) ≡ 4)
     → (d : List ℕ) → length d ≡ 8 → length (f (take 4 d) ++ g (drop 4 d)) ≡ 8
 eight-length f g kf kg d e =
     length-append (f (take 4 d)) (g (drop 4 d))

@@ -45,7 +45,8 @@ pub none_added : (count : ℕ) (step : ℕ × ℕ) (level : List ℕ) → Adding
 none_added count step level = record { size = refl; kept = λ j h. refl; added = λ k h. absurd (omega arith) }
 
 module _ {count c : ℕ} {step : ℕ × ℕ} {level now : List ℕ} (a : Adding count c step level now) where
-  pub source_below : ((j : ℕ) → j < 2 * count → get_or level j 0 < P) → c < count → (get_or now (2 * c) 0 < P) × (get_or now (2 * c + 1) 0 < P)
+  pub source_below : ((j : ℕ) → j < 2 * count → get_or level j 0 < P) → c < count → (get_or now (2 * c) 0 < P) × (get_or now
+      (2 * c + 1) 0 < P)
   source_below h l =
       let below : (j : ℕ) → j < 2 * count → get_or now j 0 < P = λ j b. rw (a.kept j b) (h j b) in
       (below (2 * c) (omega arith), below (2 * c + 1) (omega arith))

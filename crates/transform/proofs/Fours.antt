@@ -161,7 +161,8 @@ second_negative v l = inverse_difference words31 v (get_or l 3 0) (get_or l 2 0)
 interpolate_four : (w v u : ℕ) (l : List ℕ) → length l ≡ 4
     → interpolate_block words31 2 (pair_twiddle w v u) 0 l
     ≡ inverse_sum words31 (first_sum l) (second_sum l) ∷ inverse_sum words31 (first_difference v l) (second_difference u l)
-    ∷ inverse_difference words31 w (first_sum l) (second_sum l) ∷ inverse_difference words31 w (first_difference v l) (second_difference u l) ∷ []
+    ∷ inverse_difference words31 w (first_sum l) (second_sum l) ∷ inverse_difference words31 w (first_difference v l)
+    (second_difference u l) ∷ []
 unfolding interpolate_block zip_with pair_twiddle
 interpolate_four w v u l e = ap (interpolate_block words31 2 (pair_twiddle w v u) 0) (four_words l e)
 

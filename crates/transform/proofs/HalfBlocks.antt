@@ -89,7 +89,8 @@ module _ (c tree : List ℕ) (i k : ℕ) (b : Block c tree i k) (big : 14 < k) (
 
   -- ---- evaluation: the butterflies, then the halves
 
-  module _ (column : List ℕ) (is : reduced_words column ≡ butterflies words31 half (get_or tree i 0) c) (partly : PartlyReduced column) where
+  module _ (column : List ℕ) (is : reduced_words column ≡ butterflies words31 half (get_or tree i 0) c) (partly : PartlyReduced
+      column) where
     pub column_size : length column ≡ half + half
     column_size = sym (reduced-length column) ∙ ap length is ∙ butterflies-length words31 half (get_or tree i 0) c halves_size
 

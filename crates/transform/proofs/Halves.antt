@@ -6,7 +6,8 @@ use native.Mathlib.Nat as N
 use native.Mathlib.Numerals.{add-one}
 use native.Mathlib.Omega.{arith}
 use lib.ListN.{length, get_or, take, drop, set, length-append, length-take, length-drop, take-append-drop, get_or-append, drop_of_length-le}
-use lib.Seq.{drop-cons, take-suc, set_at, get_or_at, append_snoc, length-take-le, set-append_left, get_or-append-add, take_all, get_or-take, get_or-drop}
+use lib.Seq.{drop-cons, take-suc, set_at, get_or_at, append_snoc}
+use lib.Seq.{length-take-le, set-append_left, get_or-append-add, take_all, get_or-take, get_or-drop}
 use Rattle.algebra.specs.M31.{P}
 use Rattle.column.specs.Butterflies.{on_halves}
 use Rattle.column.specs.Lists.{zip_length, zip-at}
@@ -40,7 +41,8 @@ pub over_all : (a l : List ℕ) (n : ℕ) → length l ≡ n → length a ≡ n 
 over_all a l n e d = rw (take_all n l (omega arith), drop_of_length-le a {i = n} (omega arith)) (append-nil l)
 
 -- two lists side by side, each written up to i
-module _ (a b l m : List ℕ) (half i : ℕ) (ea : length a ≡ half) (eb : length b ≡ half) (el : length l ≡ half) (em : length m ≡ half) (h : i < half) where
+module _ (a b l m : List ℕ) (half i : ℕ) (ea : length a ≡ half) (eb : length b ≡ half) (el : length l ≡ half) (em : length m ≡ half)
+    (h : i < half) where
   first_at : get_or (over a l i ++ over b m i) i 0 ≡ get_or a i 0
   first_at =
       get_or-append (over a l i) (over b m i) 0 i (omega (arith, over-length a l i (omega arith) (omega arith)))
@@ -57,7 +59,8 @@ module _ (a b l m : List ℕ) (half i : ℕ) (ea : length a ≡ half) (eb : leng
       let n' : length (over a l (suc i)) ≡ half = over-length a l (suc i) (omega arith) (omega arith) ∙ ea in
       rw (add-one)
       (ap (λ (r : List ℕ). set r (half + i) (get_or m i 0))
-      (set-append_left (over a l i) (over b m i) i (get_or l i 0) (omega arith) ∙ ap (λ (r : List ℕ). r ++ over b m i) (over_next a l i (omega arith) (omega arith)))
+      (set-append_left (over a l i) (over b m i) i (get_or l i 0) (omega arith) ∙ ap (λ (r : List ℕ). r ++ over b m i) (over_next a
+      l i (omega arith) (omega arith)))
       ∙ set_append_right (over a l (suc i)) (over b m i) half i (get_or m i 0) n'
       ∙ ap (λ (r : List ℕ). over a l (suc i) ++ r) (over_next b m i (omega arith) (omega arith)))
 
@@ -81,7 +84,12 @@ module _ (f g : ℕ → ℕ → ℕ) (c : List ℕ) (half : ℕ) (size : length 
   pub halfway_end : (i : ℕ) → i ≤ half → half ≤ i → halfway f g c half i ≡ on_halves f half c ++ on_halves g half c
   halfway_end i le ge =
       let e : i ≡ half = omega arith in
-      rw (e, over_all (take half c) (on_halves f half c) half (halves f) lower, over_all (drop half c) (on_halves g half c) half (halves g) upper)
+      rw (
+        e,
+        over_all (take half c) (on_halves f half c) half (halves f) lower,
+        over_all (drop half c) (on_halves g half c) half
+            (halves g) upper,
+      )
 
   -- in a turn
   module _ (column : List ℕ) (i : ℕ) (h : i < half) (e : column ≡ halfway f g c half i) where
@@ -108,7 +116,8 @@ module _ (f g : ℕ → ℕ → ℕ) (c : List ℕ) (half : ℕ) (size : length 
         zip-at 0 k (take half c) (drop half c) i (upper ∙ sym lower) (omega (arith, lower))
         ∙ rw (get_or-take half c i 0 h, get_or-drop) (sym (ex ∙ rw (first, second)))
 
-    pub halfway_next : (x y : ℕ) → x ≡ f (get_or column i 0) (get_or column (half + i) 0) → y ≡ g (get_or column i 0) (get_or column (half + i) 0)
+    pub halfway_next : (x y : ℕ) → x ≡ f (get_or column i 0) (get_or column (half + i) 0) → y ≡ g (get_or column i 0) (get_or column
+        (half + i) 0)
         → set (set column i x) (half + i) y ≡ halfway f g c half (i + 1)
     halfway_next x y ex ey =
         rw (e, ← pair f x ex, ← pair g y ey)

@@ -15,12 +15,15 @@ use Rattle.transform.proofs.Fours.{interpolate_two_layers}
 use Rattle.transform.proofs.Layers.{Parts, all_words, nodes_room, count_even, node_even, parts_doubled, x, y, Siblings, siblings, line_node}
 
 interpolate_siblings : (tree : List ℕ) (j : ℕ) (d : List ℕ)
-    → interpolate_eight (get_or tree (2 * j) 0) (get_or tree (2 * j + 1) 0) d ≡ two_blocks 4 (interpolate_block words31 2 (node_twiddle tree)) j d
+    → interpolate_eight (get_or tree (2 * j) 0) (get_or tree (2 * j + 1) 0) d ≡ two_blocks 4 (interpolate_block words31 2
+    (node_twiddle tree)) j d
 interpolate_siblings tree j d =
     let s : Siblings tree j = siblings tree j in
     ap₂ ◌++◌
-    (interpolate_two_layers (pair_twiddle (x tree j) (y tree j) (neg_p (y tree j))) (node_twiddle tree) 0 (2 * j) s.x_fours s.x_first s.x_second (take 4 d))
-    (interpolate_two_layers (pair_twiddle (y tree j) (neg_p (x tree j)) (x tree j)) (node_twiddle tree) 0 (2 * j + 1) s.y_fours s.y_first s.y_second (drop 4 d))
+    (interpolate_two_layers (pair_twiddle (x tree j) (y tree j) (neg_p (y tree j))) (node_twiddle tree) 0 (2 * j) s.x_fours
+    s.x_first s.x_second (take 4 d))
+    (interpolate_two_layers (pair_twiddle (y tree j) (neg_p (x tree j)) (x tree j)) (node_twiddle tree) 0 (2 * j + 1) s.y_fours
+    s.y_first s.y_second (drop 4 d))
 
 module _ (column₀ tree : List ℕ) (i k : ℕ) (b : Block column₀ tree i k) where
   pub record Done (t count node : ℕ) (column : List ℕ) : Type 0 where
@@ -49,19 +52,31 @@ module _ (column₀ tree : List ℕ) (i k : ℕ) (b : Block column₀ tree i k) 
     eights_size = b.size ∙ sym (all_words tree i k 2 count node first_parts) ∙ omega (arith, whole)
 
     pub eights_room : 2 * (node / 2 + count / 2) ≤ length tree
-    eights_room = omega (arith, nodes_room tree i k 2 count node first_parts b.room (omega arith), whole, node_even tree i k 2 count node first_parts more)
+    eights_room = omega (
+      arith,
+      nodes_room tree i k 2 count node first_parts b.room (omega arith),
+      whole,
+      node_even tree i k 2 count
+          node first_parts more,
+    )
 
-    pub done_start : (column : List ℕ) → column ≡ blocks (count / 2) 8 (λ j. interpolate_eight (get_or tree (2 * j) 0) (get_or tree (2 * j + 1) 0)) (node / 2) column₀
+    pub done_start : (column : List ℕ) → column ≡ blocks (count / 2) 8 (λ j. interpolate_eight (get_or tree (2 * j) 0) (get_or tree
+        (2 * j + 1) 0)) (node / 2) column₀
         → Done 2 count node column
     done_start column e = record {
       parts = first_parts;
       low = omega arith;
       is =
           e
-          ∙ blocks-equal (count / 2) 8 (λ j. interpolate_eight (get_or tree (2 * j) 0) (get_or tree (2 * j + 1) 0)) (two_blocks 4 (interpolate_block words31 2 (node_twiddle tree)))
+          ∙ blocks-equal (count / 2) 8 (λ j. interpolate_eight (get_or tree (2 * j) 0) (get_or tree (2 * j + 1) 0)) (two_blocks 4
+          (interpolate_block words31 2 (node_twiddle tree)))
           (λ j d l. interpolate_siblings tree j d) (node / 2) column₀ (omega (arith, eights_size))
-          ∙ sym (blocks-pair (count / 2) 4 (interpolate_block words31 2 (node_twiddle tree)) (node / 2) column₀ (omega (arith, eights_size)))
-          ∙ ap₂ (λ (m n : ℕ). blocks m 4 (interpolate_block words31 2 (node_twiddle tree)) n column₀) (sym whole) (sym (node_even tree i k 2 count node first_parts more));
+          ∙ sym (blocks-pair (count / 2) 4 (interpolate_block words31 2 (node_twiddle tree)) (node / 2) column₀ (omega (
+            arith,
+            eights_size,
+          )))
+          ∙ ap₂ (λ (m n : ℕ). blocks m 4 (interpolate_block words31 2 (node_twiddle tree)) n column₀) (sym whole)
+          (sym (node_even tree i k 2 count node first_parts more));
     }
 
   -- ---- one layer more
@@ -73,7 +88,8 @@ module _ (column₀ tree : List ℕ) (i k : ℕ) (b : Block column₀ tree i k) 
     pub done_length : length column ≡ length column₀
     done_length =
         ap length d.is
-        ∙ blocks-length count (2 ^ t) (interpolate_block words31 t (node_twiddle tree)) (λ j l e. interpolate_length words31 t (node_twiddle tree) j l e) node column₀ (omega (arith, size₀))
+        ∙ blocks-length count (2 ^ t) (interpolate_block words31 t (node_twiddle tree)) (λ j l e. interpolate_length words31 t
+        (node_twiddle tree) j l e) node column₀ (omega (arith, size₀))
 
     module _ (h : t < k) (half : ℕ) (two : half ≡ 2 ^ t) where
       pair : count ≡ count / 2 + count / 2
@@ -86,12 +102,14 @@ module _ (column₀ tree : List ℕ) (i k : ℕ) (b : Block column₀ tree i k) 
       wide = N.two-pow-succ t ∙ ap₂ ◌+◌ (sym two) (sym two)
 
       pub layer_size : length column ≡ count / 2 * (half + half)
-      layer_size = done_length ∙ b.size ∙ sym (all_words tree i k (suc t) (count / 2) (node / 2) double) ∙ ap (λ (n : ℕ). count / 2 * n) wide
+      layer_size = done_length ∙ b.size ∙ sym (all_words tree i k (suc t) (count / 2) (node / 2) double) ∙ ap (λ (n : ℕ). count / 2
+          * n) wide
 
       pub layer_room : node / 2 + count / 2 ≤ length tree
       layer_room = nodes_room tree i k (suc t) (count / 2) (node / 2) double b.room (omega (arith, d.low))
 
-      pub done_next : (exit : List ℕ) → exit ≡ blocks (count / 2) (half + half) (λ j. inverse_butterflies words31 half (get_or tree j 0)) (node / 2) column
+      pub done_next : (exit : List ℕ) → exit ≡ blocks (count / 2) (half + half) (λ j. inverse_butterflies words31 half (get_or tree
+          j 0)) (node / 2) column
           → Done (t + 1) (count / 2) (node / 2) exit
       done_next exit e =
           let next : suc t ≡ t + 1 = omega arith in
@@ -101,12 +119,21 @@ module _ (column₀ tree : List ℕ) (i k : ℕ) (b : Block column₀ tree i k) 
             is =
                 e
                 ∙ ap (λ (n : ℕ). blocks (count / 2) (n + n) (λ j. inverse_butterflies words31 n (get_or tree j 0)) (node / 2) column) two
-                ∙ ap (λ (f : ℕ → ℕ). blocks (count / 2) (2 ^ t + 2 ^ t) (λ j. inverse_butterflies words31 (2 ^ t) (f j)) (node / 2) column) (λ q j. line_node tree t j (omega (arith, d.low)) q)
+                ∙ ap (λ (f : ℕ → ℕ). blocks (count / 2) (2 ^ t + 2 ^ t) (λ j. inverse_butterflies words31 (2 ^ t) (f j)) (node / 2)
+                column) (λ q j. line_node tree t j (omega (arith, d.low)) q)
                 ∙ ap (blocks (count / 2) (2 ^ t + 2 ^ t) (λ j. inverse_butterflies words31 (2 ^ t) (node_twiddle tree t j)) (node / 2))
-                (d.is ∙ ap₂ (λ (m n : ℕ). blocks m (2 ^ t) (interpolate_block words31 t (node_twiddle tree)) n column₀) pair (node_even tree i k t count node d.parts h))
+                (d.is ∙ ap₂ (λ (m n : ℕ). blocks m (2 ^ t) (interpolate_block words31 t (node_twiddle tree)) n column₀) pair
+                (node_even tree i k t count node d.parts h))
                 ∙ interpolate_layer words31 (node_twiddle tree) t (count / 2) (node / 2) column₀
-                (omega (arith, b.size, all_words tree i k (suc t) (count / 2) (node / 2) double, ap (λ (n : ℕ). count / 2 * n) (N.two-pow-succ t)))
-                ∙ ap (λ (n : ℕ). blocks (count / 2) n (interpolate_block words31 (suc t) (node_twiddle tree)) (node / 2) column₀) (sym (N.two-pow-succ t));
+                (omega (
+                  arith,
+                  b.size,
+                  all_words tree i k (suc t) (count / 2) (node / 2) double,
+                  ap (λ (n : ℕ). count / 2 * n)
+                      (N.two-pow-succ t),
+                ))
+                ∙ ap (λ (n : ℕ). blocks (count / 2) n (interpolate_block words31 (suc t) (node_twiddle tree)) (node / 2) column₀)
+                (sym (N.two-pow-succ t));
           })
 
     pub done_end : k ≤ t → column ≡ interpolate_block words31 k (node_twiddle tree) i column₀

@@ -38,7 +38,8 @@ words-set (x ∷ l) (suc i) a w h zero = w 0
 words-set (x ∷ l) (suc i) a w h (suc k) = words-set l i a (λ n. w (suc n)) h k
 
 -- words 0 and 1 of a tree, written and put back
-pub put_back : (tree : List ℕ) (a b : ℕ) → Invertible tree → set (set (set (set tree 0 a) 1 b) 0 (get_or tree 1 0)) 1 (get_or tree 1 0) ≡ tree
+pub put_back : (tree : List ℕ) (a b : ℕ) → Invertible tree → set (set (set (set tree 0 a) 1 b) 0 (get_or tree 1 0)) 1 (get_or tree 1
+    0) ≡ tree
 put_back [] a b t = refl
 put_back (x ∷ []) a b t = let least : 2 ≤ 1 = t.least in absurd (omega arith)
 put_back (x ∷ y ∷ tree) a b t = ap (λ (z : ℕ). z ∷ y ∷ tree) (sym t.copied)

@@ -34,7 +34,8 @@ partly_drop = each_drop (λ (w : ℕ). w ≤ P) none
 pub partly_spliced : (s n : ℕ) (l q : List ℕ) → PartlyReduced l → PartlyReduced q → PartlyReduced (take s l ++ (q ++ drop n (drop s l)))
 partly_spliced s n l q pl pq =
     let append = each_append (λ (w : ℕ). w ≤ P) none in
-    append (take s l) (q ++ drop n (drop s l)) (partly_take s l pl) (append q (drop n (drop s l)) pq (partly_drop n (drop s l) (partly_drop s l pl)))
+    append (take s l) (q ++ drop n (drop s l)) (partly_take s l pl) (append q (drop n (drop s l)) pq (partly_drop n (drop s l)
+    (partly_drop s l pl)))
 
 pub reduced-length : (l : List ℕ) → length (reduced_words l) ≡ length l
 reduced-length l = length-map l (λ (w : ℕ). w % P)
@@ -65,11 +66,13 @@ pub reduced-part : (n s : ℕ) (l : List ℕ) → reduced_words (take n (drop s 
 reduced-part n s l = reduced-take n (drop s l) ∙ ap (take n) (reduced-drop s l)
 
 pub reduced_spliced : (s n : ℕ) (l q : List ℕ)
-    → reduced_words (take s l ++ (q ++ drop n (drop s l))) ≡ take s (reduced_words l) ++ (reduced_words q ++ drop n (drop s (reduced_words l)))
+    → reduced_words (take s l ++ (q ++ drop n (drop s l))) ≡ take s (reduced_words l) ++ (reduced_words q ++ drop n
+    (drop s (reduced_words l)))
 reduced_spliced s n l q =
     map-append (λ (w : ℕ). w % P) (take s l) (q ++ drop n (drop s l))
     ∙ ap₂ ◌++◌ (reduced-take s l)
-    (map-append (λ (w : ℕ). w % P) q (drop n (drop s l)) ∙ ap (λ (r : List ℕ). reduced_words q ++ r) (reduced-drop n (drop s l) ∙ ap (drop n) (reduced-drop s l)))
+    (map-append (λ (w : ℕ). w % P) q (drop n (drop s l)) ∙ ap (λ (r : List ℕ). reduced_words q ++ r) (reduced-drop n (drop s l) ∙ ap
+    (drop n) (reduced-drop s l)))
 
 -- ---- sums and differences with a number that is reduced only by them
 
@@ -116,4 +119,5 @@ module _ (u v x y : ℕ) (ex : u % P ≡ x) (ey : v % P ≡ y) where
   pub partly_inverse_difference : (t d r : ℕ) → d % P ≡ sub_p u v → r ≡ mul_p d t → r ≡ inverse_difference words31 t x y
   unfolding inverse_difference
   partly_inverse_difference t d r e f =
-      f ∙ sym (mod-mul-mod d t P) ∙ ap (λ (m : ℕ). mul_p m t) (e ∙ sub_partly u v y ey ∙ sym (N.mod-add-mod u P ((P - y % P) % P)) ∙ ap (λ (m : ℕ). sub_p m y) ex)
+      f ∙ sym (mod-mul-mod d t P) ∙ ap (λ (m : ℕ). mul_p m t) (e ∙ sub_partly u v y ey ∙ sym (N.mod-add-mod u P ((P - y % P) % P)) ∙
+      ap (λ (m : ℕ). sub_p m y) ex)

@@ -39,7 +39,8 @@ unfolding butterflies evaluate_block
 as_block tw i c = refl
 
 -- two words, each reduced
-pub two_reduced : (l : List ℕ) → length l ≡ 2 → (a b : ℕ) → a ≡ get_or l 0 0 % P → b ≡ get_or l 1 0 % P → set (set l 0 a) 1 b ≡ reduced_words l
+pub two_reduced : (l : List ℕ) → length l ≡ 2 → (a b : ℕ) → a ≡ get_or l 0 0 % P → b ≡ get_or l 1 0 % P → set (set l 0 a) 1 b ≡
+    reduced_words l
 two_reduced [] e a b ea eb = absurd (omega arith)
 two_reduced (x ∷ []) e a b ea eb = absurd (omega arith)
 two_reduced (x ∷ y ∷ []) e a b ea eb = λ i. ea i ∷ eb i ∷ []
@@ -87,7 +88,8 @@ module _ (x : ℕ) (is : x ≡ (half_point 2 0).0) where
   four_holds (suc zero) (suc d) e i h = absurd (omega arith)
   four_holds (suc (suc t)) d e i h = absurd (omega arith)
 
-  pub four_evaluated_values : (c r : List ℕ) → Column 2 c → r ≡ evaluate_block words31 2 (pair_twiddle x (neg_p x) x) 0 c → r ≡ values_of 2 c
+  pub four_evaluated_values : (c r : List ℕ) → Column 2 c → r ≡ evaluate_block words31 2 (pair_twiddle x (neg_p x) x) 0 c → r ≡
+      values_of 2 c
   unfolding pair_twiddle
   four_evaluated_values c r h e =
       e ∙ evaluate_two_layers (pair_twiddle x (neg_p x) x) (pair_twiddle x (neg_p x) x) 0 1 refl refl refl c

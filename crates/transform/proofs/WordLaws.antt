@@ -6,7 +6,8 @@ use lib.Seq.{get_or-drop}
 use Rattle.algebra.specs.M31.{P, P_pos}
 use Rattle.fields.specs.Words.{words31}
 use Rattle.fields.specs.Inverse.{m31_representation}
-use Rattle.column.specs.Butterflies.{on_halves, butterfly_sum, butterfly_difference, evaluate_block, inverse_sum, inverse_difference, inverse_butterflies, scaled}
+use Rattle.column.specs.Butterflies.{on_halves, butterfly_sum, butterfly_difference, evaluate_block}
+use Rattle.column.specs.Butterflies.{inverse_sum, inverse_difference, inverse_butterflies, scaled}
 use Rattle.transform.specs.Tree.{Words}
 
 -- a property of each word; past the end stands 0
@@ -82,7 +83,8 @@ words_evaluate (suc k) tw i c w =
     let upper : List ℕ = on_halves (butterfly_difference words31 (tw k i)) (2 ^ k) c in
     words_append (evaluate_block words31 k tw (2 * i) lower) (evaluate_block words31 k tw (2 * i + 1) upper)
     (words_evaluate k tw (2 * i) lower (words-zip (butterfly_sum words31 (tw k i)) (sum_word (tw k i)) (take (2 ^ k) c) (drop (2 ^ k) c)))
-    (words_evaluate k tw (2 * i + 1) upper (words-zip (butterfly_difference words31 (tw k i)) (difference_word (tw k i)) (take (2 ^ k) c) (drop (2 ^ k) c)))
+    (words_evaluate k tw (2 * i + 1) upper (words-zip (butterfly_difference words31 (tw k i)) (difference_word (tw k i))
+    (take (2 ^ k) c) (drop (2 ^ k) c)))
 
 pub words-scaled : (s : ℕ) (c : List ℕ) → Words (scaled words31 s c)
 unfolding scaled

@@ -1,5 +1,6 @@
 -- The tree of twiddles in scratch, and what the inner functions of the transform leave.
-use Rattle.std.specs.Prelude.{ℕ, zero, suc, ◌+◌, ◌-◌, ◌*◌, ◌/◌, ◌%◌, ◌^◌, ◌≤◌, ◌<◌, ◌≡◌, cond, List, ◌++◌, map, eqb, length, get_or, take, drop}
+use Rattle.std.specs.Prelude.{ℕ, zero, suc, ◌+◌, ◌-◌, ◌*◌, ◌/◌, ◌%◌, ◌^◌, ◌≤◌}
+use Rattle.std.specs.Prelude.{◌<◌, ◌≡◌, cond, List, ◌++◌, map, eqb, length, get_or, take, drop}
 use Rattle.algebra.specs.M31.{P}
 use Rattle.algebra.specs.Circle.{plus, double_x}
 use Rattle.fields.specs.Words.{mul_p, neg_p, words31}

@@ -7,7 +7,8 @@ pub bit_reverse-requires : goal.bit_reverse-requires
 bit_reverse-requires c = (search rules, is_power c.args.v.now _ c.log_size-log_size.ensures (search rules))
 
 pub returns-then-log_size-lt64 : goal.returns-then-log_size-lt64
-returns-then-log_size-lt64 c = accepted c.args.v.now _ c.log_size-log_size.ensures reverse_bits _ c.if-log_size-lt64.true c.bit_reverse.ensures
+returns-then-log_size-lt64 c = accepted c.args.v.now _ c.log_size-log_size.ensures reverse_bits _ c.if-log_size-lt64.true
+    c.bit_reverse.ensures
 
 pub returns : goal.returns
 returns c = refused c.args.v.now _ c.log_size-log_size.ensures reverse_bits c.if-log_size-lt64.false

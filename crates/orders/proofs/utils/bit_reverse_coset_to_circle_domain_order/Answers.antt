@@ -7,7 +7,8 @@ pub bit_reverse_coset_to_circle_domain_order-requires : goal.bit_reverse_coset_t
 bit_reverse_coset_to_circle_domain_order-requires c = (search rules, is_power c.args.v.now _ c.log_size-log_size.ensures (search rules))
 
 pub returns-then-log_size-lt64 : goal.returns-then-log_size-lt64
-returns-then-log_size-lt64 c = accepted c.args.v.now _ c.log_size-log_size.ensures coset_bit_reversed _ c.if-log_size-lt64.true c.bit_reverse_coset_to_circle_domain_order.ensures
+returns-then-log_size-lt64 c = accepted c.args.v.now _ c.log_size-log_size.ensures coset_bit_reversed _ c.if-log_size-lt64.true
+    c.bit_reverse_coset_to_circle_domain_order.ensures
 
 pub returns : goal.returns
 returns c = refused c.args.v.now _ c.log_size-log_size.ensures coset_bit_reversed c.if-log_size-lt64.false

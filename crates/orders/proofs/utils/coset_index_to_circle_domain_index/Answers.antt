@@ -13,7 +13,11 @@ returns-then-log_domain_size-gt31 c = search (answers, rules)
 
 pub returns-then-size-coset_index : goal.returns-then-size-coset_index
 unfolding coset_index_answer
-returns-then-size-coset_index c = let high : 2 ^ c.args.log_domain_size ≤ c.args.coset_index = omega (arith, c.two_to-size.ensures, c.if-size-coset_index.true) in
+returns-then-size-coset_index c = let high : 2 ^ c.args.log_domain_size ≤ c.args.coset_index = omega (
+  arith,
+  c.two_to-size.ensures,
+  c.if-size-coset_index.true,
+) in
     search (answers, rules)
 
 pub coset_index_to_circle_domain_index-requires : goal.coset_index_to_circle_domain_index-requires

@@ -30,5 +30,6 @@ unfolding offset_answer
 returns c = let args = c.args in
     let parts = c.parts-step.ensures ∙ ap parts_of (to_z-of_z c.ranges.offset) in
     let low = subst (λ (t : SignAndSize). t.size ≤ 2 ^ 31) parts c.if-step-gt2147483648.false in
-    let value = c.offset_bit_reversed_circle_domain_index.ensures ∙ ap (λ (t : SignAndSize). offset_index args.i args.domain_log_size args.eval_log_size t.negative t.size) parts in
+    let value = c.offset_bit_reversed_circle_domain_index.ensures ∙ ap (λ (t : SignAndSize). offset_index args.i
+    args.domain_log_size args.eval_log_size t.negative t.size) parts in
     search (answers, rules)

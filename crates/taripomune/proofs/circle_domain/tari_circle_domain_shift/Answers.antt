@@ -6,4 +6,5 @@ use Rattle.taripomune.specs.CosetReply.{circle_domain_reply}
 use Rattle.taripomune.proofs.circle_domain.tari_circle_domain_shift.Goals as goal
 
 pub returns : goal.returns
-returns c = c.circle_domain_reply.ensures ∙ ap circle_domain_reply (c.shift.ensures ∙ ap (λ (k : CircleDomain). shift_answer k (of_index c.args.shift)) c.circle_domain-d.ensures)
+returns c = c.circle_domain_reply.ensures ∙ ap circle_domain_reply (c.shift.ensures ∙ ap (λ (k : CircleDomain). shift_answer k
+    (of_index c.args.shift)) c.circle_domain-d.ensures)

@@ -6,4 +6,5 @@ use Rattle.taripomune.specs.CosetReply.{coset_reply}
 use Rattle.taripomune.proofs.coset.tari_coset_shift.Goals as goal
 
 pub returns : goal.returns
-returns c = c.coset_reply.ensures ∙ ap coset_reply (c.shift.ensures ∙ ap (λ (k : Coset). shift_answer k (of_index c.args.shift_size)) c.coset-c.ensures)
+returns c = c.coset_reply.ensures ∙ ap coset_reply (c.shift.ensures ∙ ap (λ (k : Coset). shift_answer k
+    (of_index c.args.shift_size)) c.coset-c.ensures)

@@ -8,4 +8,5 @@ use Rattle.taripomune.specs.Reply.{m31_reply}
 use Rattle.taripomune.proofs.m31.tari_m31_from_i32.Goals as goal
 
 pub returns : goal.returns
-returns c = c.m31_reply.ensures ∙ ap (λ (a : M31). m31_reply (Value a)) (c.from_i32.ensures ∙ ap (λ (x : ℤ). of_word (residue_of x)) (to_z-of_z c.ranges.value))
+returns c = c.m31_reply.ensures ∙ ap (λ (a : M31). m31_reply (Value a)) (c.from_i32.ensures ∙ ap (λ (x : ℤ). of_word (residue_of x))
+    (to_z-of_z c.ranges.value))

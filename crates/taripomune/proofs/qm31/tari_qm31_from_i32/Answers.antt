@@ -9,4 +9,5 @@ use Rattle.taripomune.specs.Reply.{qm31_reply}
 use Rattle.taripomune.proofs.qm31.tari_qm31_from_i32.Goals as goal
 
 pub returns : goal.returns
-returns c = c.qm31_reply.ensures ∙ ap (λ (a : QM31). qm31_reply (Value a)) (c.from_i32.ensures ∙ ap (λ (x : ℤ). of_pairs (of_base (residue_of x))) (to_z-of_z c.ranges.value))
+returns c = c.qm31_reply.ensures ∙ ap (λ (a : QM31). qm31_reply (Value a)) (c.from_i32.ensures ∙ ap (λ (x : ℤ). of_pairs
+    (of_base (residue_of x))) (to_z-of_z c.ranges.value))

@@ -15,7 +15,8 @@ use Rattle.transform.proofs.evaluation.butterflies.Goals as goal
 pub loop-q-init : goal.loop-q-init
 loop-q-init c = let block = c.args.block.now in (
   search rules,
-  halfway_start (butterfly_sum words31 c.args.w) (butterfly_difference words31 c.args.w) (reduced_words block) c.args.half (reduced-length block ∙ c.requires.0),
+  halfway_start (butterfly_sum words31 c.args.w) (butterfly_difference words31 c.args.w) (reduced_words block) c.args.half
+      (reduced-length block ∙ c.requires.0),
   refl,
   c.requires.2,
 )
@@ -43,13 +44,17 @@ loop-q-preserved c = let s = c in
     let first = sym (reduced-at block q) in
     let second = sym (reduced-at block other) in (
       omega arith,
-      reduced-set (set block q sum.result) other difference.result ∙ ap (λ (r : List ℕ). set r other (difference.result % P)) (reduced-set block q sum.result)
-          ∙ halfway_next (butterfly_sum words31 s.args.w) (butterfly_difference words31 s.args.w) (reduced_words s.args.block.now) s.args.half
-          (reduced-length s.args.block.now ∙ s.requires.0) (reduced_words block) q c.loop-q-test.true c.loop-q.invariant.1 (sum.result % P) (difference.result % P)
+      reduced-set (set block q sum.result) other difference.result ∙ ap (λ (r : List ℕ). set r other (difference.result % P))
+          (reduced-set block q sum.result)
+          ∙ halfway_next (butterfly_sum words31 s.args.w) (butterfly_difference words31 s.args.w) (reduced_words s.args.block.now)
+          s.args.half
+          (reduced-length s.args.block.now ∙ s.requires.0) (reduced_words block) q c.loop-q-test.true c.loop-q.invariant.1
+          (sum.result % P) (difference.result % P)
           (partly_sum _ _ _ _ product _ sum.ensures.0 ∙ ap₂ (butterfly_sum words31 s.args.w) first second)
           (partly_difference _ _ _ _ product _ difference.ensures.0 ∙ ap₂ (butterfly_difference words31 s.args.w) first second),
       simp (length-set) c.loop-q.invariant.2,
-      partly_set (set block q sum.result) other difference.result (partly_set block q sum.result c.loop-q.invariant.3 sum.ensures.1) difference.ensures.1,
+      partly_set (set block q sum.result) other difference.result (partly_set block q sum.result c.loop-q.invariant.3 sum.ensures.1)
+          difference.ensures.1,
     )
 
 pub shape_of-block : goal.shape_of-block
@@ -59,7 +64,8 @@ pub returns : goal.returns
 unfolding butterflies
 returns c = let block = c.args.block.now in (
   c.loop-q.invariant.1
-      ∙ halfway_end (butterfly_sum words31 c.args.w) (butterfly_difference words31 c.args.w) (reduced_words block) c.args.half (reduced-length block ∙ c.requires.0)
+      ∙ halfway_end (butterfly_sum words31 c.args.w) (butterfly_difference words31 c.args.w) (reduced_words block) c.args.half
+      (reduced-length block ∙ c.requires.0)
       c.loop-q.q c.loop-q.invariant.0 c.loop-q-test.false,
   c.loop-q.invariant.3,
 )

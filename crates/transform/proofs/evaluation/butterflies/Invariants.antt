@@ -9,7 +9,8 @@ use Rattle.transform.proofs.evaluation.butterflies.Given as goal
 
 -- both halves are written up to q
 abbrev pub invariant-loop-q : goal.invariant-loop-q
-invariant-loop-q l = (l.q ≤ l.half) × (reduced_words l.block ≡ halfway (butterfly_sum words31 l.w) (butterfly_difference words31 l.w) (reduced_words l.initial.block) l.half l.q) × (length l.block ≡ length l.initial.block) × PartlyReduced l.block
+invariant-loop-q l = (l.q ≤ l.half) × (reduced_words l.block ≡ halfway (butterfly_sum words31 l.w) (butterfly_difference words31
+    l.w) (reduced_words l.initial.block) l.half l.q) × (length l.block ≡ length l.initial.block) × PartlyReduced l.block
 
 abbrev pub decreases-loop-q : goal.decreases-loop-q
 decreases-loop-q l = l.half - l.q

@@ -1,9 +1,9 @@
-use Prim.Native.Nat.{ℕ, ◌+◌, ◌-◌, ◌*◌}
+use Prim.Native.Nat.{ℕ, ◌+◌, ◌-◌, ◌*◌, ◌≤◌}
 use mathlib.Core.Path.{◌≡◌, refl, sym, ◌∙◌, subst}
 use mathlib.Core.List.{List}
 use native.Mathlib.Nat as N
 use native.Mathlib.Omega.{arith}
-use lib.ListN.{get_or, take, drop}
+use lib.ListN.{length, get_or, take, drop}
 use lib.Seq.{take_all}
 use Rattle.algebra.specs.M31.{P_pos}
 use Rattle.fields.specs.Words.{neg_p, words31}
@@ -31,20 +31,27 @@ block-after-below tree j l q e k =
     rw e (eight-words (first x y) (second x y) (λ l w. words_evaluate 2 _ 0 l w) (λ l w. words_evaluate 2 _ 0 l w) (reduced_words l)
     (reduced_below l) k)
 
+-- the eight words of a turn lie in the column, which keeps its length
+in-column : (d : goal.In-loop-b) → (8 * d.loop-b.b + 8 ≤ length d.loop-b.column)
+    × (length d.loop-b.column ≡ length d.args.column.now)
+in-column d =
+    partly_inside d.args.count 8 (block_after d.args.tree.now) d.args.node d.args.column.now d.requires.0 d.loop-b.b
+    d.loop-b.column d.loop-b.invariant.0 d.loop-b-test.true _ _ (N.mul_comm 8 d.loop-b.b) refl
+
 pub loop-b-init : goal.loop-b-init
 loop-b-init c = (partly_start c.args.count 8 (block_after c.args.tree.now) c.args.node c.args.column.now c.requires.2, λ k. P_pos)
 
 pub overflow_mul-start : goal.overflow_mul-start
-overflow_mul-start c = omega (arith, (partly_inside c.args.count 8 (block_after c.args.tree.now) c.args.node c.args.column.now c.requires.0 c.loop-b.b c.loop-b.column c.loop-b.invariant.0 c.loop-b-test.true _ _ (N.mul_comm 8 c.loop-b.b) refl).0, (partly_inside c.args.count 8 (block_after c.args.tree.now) c.args.node c.args.column.now c.requires.0 c.loop-b.b c.loop-b.column c.loop-b.invariant.0 c.loop-b-test.true _ _ (N.mul_comm 8 c.loop-b.b) refl).1)
+overflow_mul-start c = omega (arith, (in-column c).0, (in-column c).1)
 
 pub overflow_add-end : goal.overflow_add-end
-overflow_add-end c = omega (arith, (partly_inside c.args.count 8 (block_after c.args.tree.now) c.args.node c.args.column.now c.requires.0 c.loop-b.b c.loop-b.column c.loop-b.invariant.0 c.loop-b-test.true _ _ (N.mul_comm 8 c.loop-b.b) refl).0, (partly_inside c.args.count 8 (block_after c.args.tree.now) c.args.node c.args.column.now c.requires.0 c.loop-b.b c.loop-b.column c.loop-b.invariant.0 c.loop-b-test.true _ _ (N.mul_comm 8 c.loop-b.b) refl).1)
+overflow_add-end c = omega (arith, (in-column c).0, (in-column c).1)
 
 pub offset_bounds-column-start : goal.offset_bounds-column-start
-offset_bounds-column-start c = omega (arith, (partly_inside c.args.count 8 (block_after c.args.tree.now) c.args.node c.args.column.now c.requires.0 c.loop-b.b c.loop-b.column c.loop-b.invariant.0 c.loop-b-test.true _ _ (N.mul_comm 8 c.loop-b.b) refl).0, (partly_inside c.args.count 8 (block_after c.args.tree.now) c.args.node c.args.column.now c.requires.0 c.loop-b.b c.loop-b.column c.loop-b.invariant.0 c.loop-b-test.true _ _ (N.mul_comm 8 c.loop-b.b) refl).1)
+offset_bounds-column-start c = omega (arith, (in-column c).0, (in-column c).1)
 
 pub slice_bounds-eight-end : goal.slice_bounds-eight-end
-slice_bounds-eight-end c = (partly_inside c.args.count 8 (block_after c.args.tree.now) c.args.node c.args.column.now c.requires.0 c.loop-b.b c.loop-b.column c.loop-b.invariant.0 c.loop-b-test.true _ _ (N.mul_comm 8 c.loop-b.b) refl).0
+slice_bounds-eight-end c = (in-column c).0
 
 pub eight-requires : goal.eight-requires
 eight-requires c = let tree = c.args.tree.now in
@@ -72,7 +79,11 @@ loop-b-preserved c = let tree = c.args.tree.now in
           eight-length (first x y) (second x y) (λ l e. evaluate_length words31 2 _ 0 l e) (λ l e. evaluate_length words31 2 _ 0 l e) l e)
           eight.new.block (reduced_same eight.new.block below ∙ eight.ensures) (partly_words eight.new.block below),
       spliced_prefix c.loop-b.column eight.new.block _ (8 * c.loop-b.b) 8 (8 * (c.loop-b.b + 1))
-          (omega (arith, (partly_inside c.args.count 8 (block_after c.args.tree.now) c.args.node c.args.column.now c.requires.0 c.loop-b.b c.loop-b.column c.loop-b.invariant.0 c.loop-b-test.true _ _ (N.mul_comm 8 c.loop-b.b) refl).0))
+          (omega (
+            arith,
+            (partly_inside c.args.count 8 (block_after c.args.tree.now) c.args.node c.args.column.now c.requires.0
+                c.loop-b.b c.loop-b.column c.loop-b.invariant.0 c.loop-b-test.true _ _ (N.mul_comm 8 c.loop-b.b) refl).0,
+          ))
           (eight.auto.block ∙ partly_part_length c.args.count 8 (block_after tree) c.args.node c.args.column.now c.requires.0
           c.loop-b.b c.loop-b.column c.loop-b.invariant.0 c.loop-b-test.true _ _
           (N.mul_comm 8 c.loop-b.b) refl)

@@ -3,7 +3,8 @@ use mathlib.Core.Path.{refl, sym, ◌∙◌, ap}
 use native.Mathlib.Omega.{arith}
 use Rattle.transform.specs.Transform.{values_of}
 use Rattle.transform.specs.TreeLaws.{tree_words}
-use Rattle.transform.proofs.Whole.{column_of_lem, tree_part, tree_size, filled-length, filled_rest, evaluation_block, column_evaluated, taken_length}
+use Rattle.transform.proofs.Whole.{column_of_lem, tree_part, tree_size, filled-length}
+use Rattle.transform.proofs.Whole.{filled_rest, evaluation_block, column_evaluated, taken_length}
 use Rattle.transform.proofs.evaluation.evaluate.Goals as goal
 
 pub evaluate_two-requires : goal.evaluate_two-requires
@@ -23,14 +24,21 @@ returns-then-log_size-eq2 c = let four = c.evaluate_four in
     (four.ensures ∙ ap (λ (n : ℕ). values_of n c.args.column.now) (sym two), refl, refl)
 
 pub slice_bounds-fill-end-2 : goal.slice_bounds-fill-end-2
-slice_bounds-fill-end-2 c = sym (tree_part c.args.log_size c.args.column.now c.args.scratch.now (omega arith) c.requires.1 c.requires.2 c.requires.3)
+slice_bounds-fill-end-2 c = sym (tree_part c.args.log_size c.args.column.now c.args.scratch.now (omega arith) c.requires.1
+    c.requires.2 c.requires.3)
 
 pub fill-requires : goal.fill-requires
-fill-requires c = (omega arith, c.requires.1, tree_size c.args.log_size c.args.column.now c.args.scratch.now (omega arith) c.requires.1 c.requires.2 c.requires.3)
+fill-requires c = (
+  omega arith,
+  c.requires.1,
+  tree_size c.args.log_size c.args.column.now c.args.scratch.now (omega arith)
+      c.requires.1 c.requires.2 c.requires.3,
+)
 
 pub slice_bounds-block-end-2 : goal.slice_bounds-block-end-2
 slice_bounds-block-end-2 c = let fill = c.fill in
-    taken_length c.args.log_size c.args.column.now c.args.scratch.now (omega arith) c.requires.1 c.requires.2 c.requires.3 fill.new.tree fill.auto.tree
+    taken_length c.args.log_size c.args.column.now c.args.scratch.now (omega arith) c.requires.1 c.requires.2 c.requires.3
+    fill.new.tree fill.auto.tree
 
 pub block-requires : goal.block-requires
 block-requires c = let fill = c.fill in
@@ -44,7 +52,8 @@ returns c = let block = c.block in
     let fill = c.fill in
     let n = c.args.log_size in
     let lo : 3 ≤ n = omega arith in (
-      column_evaluated n c.args.column.now c.args.scratch.now lo c.requires.1 c.requires.2 c.requires.3 fill.new.tree fill.auto.tree fill.ensures block.new.column block.ensures,
+      column_evaluated n c.args.column.now c.args.scratch.now lo c.requires.1 c.requires.2 c.requires.3 fill.new.tree fill.auto.tree
+          fill.ensures block.new.column block.ensures,
       filled-length n c.args.column.now c.args.scratch.now lo c.requires.1 c.requires.2 c.requires.3 fill.new.tree fill.auto.tree,
       filled_rest n c.args.column.now c.args.scratch.now lo c.requires.1 c.requires.2 c.requires.3 fill.new.tree fill.auto.tree,
     )

@@ -6,7 +6,8 @@ use Rattle.fields.specs.Words.{words31}
 use Rattle.column.specs.Butterflies.{butterfly_sum, butterfly_difference}
 use Rattle.transform.specs.Tree.{reduced_words}
 use Rattle.transform.proofs.Partly.{reduced-length, product_partly, reduced-sum, reduced_difference}
-use Rattle.transform.proofs.Fours.{upper_sum, upper_difference, lower-sum, lower_difference_lem, upper-sum, upper_difference_lem, four_evaluated}
+use Rattle.transform.proofs.Fours.{upper_sum, upper_difference, lower-sum}
+use Rattle.transform.proofs.Fours.{lower_difference_lem, upper-sum, upper_difference_lem, four_evaluated}
 use Rattle.transform.proofs.evaluation.four.Goals as goal
 
 pub partial_reduce-a-requires : goal.partial_reduce-a-requires
@@ -39,6 +40,8 @@ returns c = let w = c.args.w in
     let fourth = product_partly _ _ _ _ c.mul_partly-n.ensures.0 n in
     four_evaluated w v block (reduced_words block) c.requires.0 (reduced-length block ∙ c.requires.0) _ _ _ _
     (reduced-sum _ _ _ _ third _ c.add.ensures ∙ ap (λ (t : ℕ). butterfly_sum words31 v t (upper_sum w (reduced_words block))) p)
-    (reduced_difference _ _ _ _ third _ c.sub.ensures ∙ ap (λ (t : ℕ). butterfly_difference words31 v t (upper_sum w (reduced_words block))) p)
-    (reduced_difference _ _ _ _ fourth _ c.sub-2.ensures ∙ ap (λ (t : ℕ). butterfly_difference words31 v t (upper_difference w (reduced_words block))) m)
+    (reduced_difference _ _ _ _ third _ c.sub.ensures ∙ ap (λ (t : ℕ). butterfly_difference words31 v t (upper_sum w (reduced_words
+    block))) p)
+    (reduced_difference _ _ _ _ fourth _ c.sub-2.ensures ∙ ap (λ (t : ℕ). butterfly_difference words31 v t (upper_difference w
+    (reduced_words block))) m)
     (reduced-sum _ _ _ _ fourth _ c.add-2.ensures ∙ ap (λ (t : ℕ). butterfly_sum words31 v t (upper_difference w (reduced_words block))) m)

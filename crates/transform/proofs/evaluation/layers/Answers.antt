@@ -14,18 +14,28 @@ two_to-half-requires c = omega (arith, c.loop-t.invariant.0.most, c.loop-t.invar
 pub layer-requires : goal.layer-requires
 layer-requires c = let at = c.loop-t in
     let s = c.args in (
-      sym (reduced-length at.column) ∙ left_size (reduced_words s.column.now) s.tree.now s.i s.k at.invariant.0 at.t at.count at.node (reduced_words at.column) at.invariant.1 _ _ refl c.loop-t-test.true
+      sym (reduced-length at.column) ∙ left_size (reduced_words s.column.now) s.tree.now s.i s.k at.invariant.0 at.t at.count
+          at.node (reduced_words at.column) at.invariant.1 _ _ refl c.loop-t-test.true
           c.two_to-half.ensures,
-      left_nodes (reduced_words s.column.now) s.tree.now s.i s.k at.invariant.0 at.t at.count at.node (reduced_words at.column) at.invariant.1,
+      left_nodes (reduced_words s.column.now) s.tree.now s.i s.k at.invariant.0 at.t at.count at.node (reduced_words at.column)
+          at.invariant.1,
       at.invariant.2,
       at.invariant.0.twiddles,
     )
 
 pub overflow_mul-node : goal.overflow_mul-node
-overflow_mul-node c = omega (arith, (let at = c.loop-t in let s = c.args in left_nodes (reduced_words s.column.now) s.tree.now s.i s.k at.invariant.0 at.t at.count at.node (reduced_words at.column) at.invariant.1))
+overflow_mul-node c = omega (
+  arith,
+  (let at = c.loop-t in let s = c.args in left_nodes (reduced_words s.column.now) s.tree.now s.i
+      s.k at.invariant.0 at.t at.count at.node (reduced_words at.column) at.invariant.1),
+)
 
 pub overflow_mul-count : goal.overflow_mul-count
-overflow_mul-count c = omega (arith, (let at = c.loop-t in let s = c.args in left_nodes (reduced_words s.column.now) s.tree.now s.i s.k at.invariant.0 at.t at.count at.node (reduced_words at.column) at.invariant.1))
+overflow_mul-count c = omega (
+  arith,
+  (let at = c.loop-t in let s = c.args in left_nodes (reduced_words s.column.now) s.tree.now s.i
+      s.k at.invariant.0 at.t at.count at.node (reduced_words at.column) at.invariant.1),
+)
 
 pub loop-t-preserved : goal.loop-t-preserved
 loop-t-preserved c = let layer = c.layer in
@@ -33,7 +43,8 @@ loop-t-preserved c = let layer = c.layer in
     let at = c.loop-t in
     let s = c.args in (
       at.invariant.0,
-      left_next (reduced_words s.column.now) s.tree.now s.i s.k at.invariant.0 at.t at.count at.node (reduced_words at.column) at.invariant.1 _ power.result refl
+      left_next (reduced_words s.column.now) s.tree.now s.i s.k at.invariant.0 at.t at.count at.node (reduced_words at.column)
+          at.invariant.1 _ power.result refl
           c.loop-t-test.true power.ensures (reduced_words layer.new.column) layer.ensures.0,
       layer.ensures.1,
     )
@@ -41,8 +52,10 @@ loop-t-preserved c = let layer = c.layer in
 pub eights-requires : goal.eights-requires
 eights-requires c = let at = c.loop-t in
     let s = c.args in (
-      sym (reduced-length at.column) ∙ eights_size (reduced_words s.column.now) s.tree.now s.i s.k at.invariant.0 at.t at.count at.node (reduced_words at.column) at.invariant.1 c.loop-t-test.false,
-      eights_room (reduced_words s.column.now) s.tree.now s.i s.k at.invariant.0 at.t at.count at.node (reduced_words at.column) at.invariant.1 c.loop-t-test.false,
+      sym (reduced-length at.column) ∙ eights_size (reduced_words s.column.now) s.tree.now s.i s.k at.invariant.0 at.t at.count
+          at.node (reduced_words at.column) at.invariant.1 c.loop-t-test.false,
+      eights_room (reduced_words s.column.now) s.tree.now s.i s.k at.invariant.0 at.t at.count at.node (reduced_words at.column)
+          at.invariant.1 c.loop-t-test.false,
       at.invariant.2,
       at.invariant.0.twiddles,
     )
@@ -56,5 +69,6 @@ pub returns : goal.returns
 returns c = let eights = c.eights in
     let at = c.loop-t in
     let s = c.args in
-    left_end (reduced_words s.column.now) s.tree.now s.i s.k at.invariant.0 at.t at.count at.node (reduced_words at.column) at.invariant.1 c.loop-t-test.false
+    left_end (reduced_words s.column.now) s.tree.now s.i s.k at.invariant.0 at.t at.count at.node (reduced_words at.column)
+    at.invariant.1 c.loop-t-test.false
     eights.new.column eights.ensures

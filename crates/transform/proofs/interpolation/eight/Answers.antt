@@ -26,5 +26,6 @@ returns c = let negated = c.four_negated in
     let x = c.args.x in
     let y = c.args.y in
     partly_parts c.args.block.now c.requires.0 four.new.block (four.auto.block ∙ first_length c.args.block.now c.requires.0)
-    (interpolate_block words31 2 (pair_twiddle x y (neg_p y)) 0) (interpolate_block words31 2 (pair_twiddle y (neg_p x) x) 0) negated.new.block
+    (interpolate_block words31 2 (pair_twiddle x y (neg_p y)) 0) (interpolate_block words31 2 (pair_twiddle y (neg_p x) x) 0)
+    negated.new.block
     four.ensures.0 four.ensures.1 negated.ensures.0 negated.ensures.1

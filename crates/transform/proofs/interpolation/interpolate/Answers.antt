@@ -41,7 +41,8 @@ returns-then-log_size-eq2 c = let scale = c.scale-then-log_size-eq2 in
     )
 
 pub slice_bounds-fill-end-2 : goal.slice_bounds-fill-end-2
-slice_bounds-fill-end-2 c = sym (tree_part c.args.log_size c.args.column.now c.args.scratch.now (omega arith) c.requires.1 c.requires.2 c.requires.3)
+slice_bounds-fill-end-2 c = sym (tree_part c.args.log_size c.args.column.now c.args.scratch.now (omega arith) c.requires.1
+    c.requires.2 c.requires.3)
 
 pub fill-requires : goal.fill-requires
 fill-requires c = (

@@ -10,13 +10,30 @@ use Rattle.transform.proofs.Halves.{halfway_start, halfway_end, first_word, seco
 use Rattle.transform.proofs.interpolation.inverse_butterflies.Goals as goal
 
 pub loop-q-init : goal.loop-q-init
-loop-q-init c = (search rules, halfway_start (inverse_sum words31) (inverse_difference words31 c.args.t) c.args.block.now c.args.half c.requires.0, refl)
+loop-q-init c = (
+  search rules,
+  halfway_start (inverse_sum words31) (inverse_difference words31 c.args.t) c.args.block.now
+      c.args.half c.requires.0,
+  refl,
+)
 
 pub add-requires : goal.add-requires
-add-requires c = ((first_word (inverse_sum words31) (inverse_difference words31 c.args.t) c.args.block.now c.args.half c.requires.0 c.loop-q.block c.loop-q.q c.loop-q-test.true c.loop-q.invariant.1 c.requires.2), N.le_of_lt (second_word (inverse_sum words31) (inverse_difference words31 c.args.t) c.args.block.now c.args.half c.requires.0 c.loop-q.block c.loop-q.q c.loop-q-test.true c.loop-q.invariant.1 c.requires.2))
+add-requires c = (
+  (first_word (inverse_sum words31) (inverse_difference words31 c.args.t) c.args.block.now c.args.half c.requires.0
+      c.loop-q.block c.loop-q.q c.loop-q-test.true c.loop-q.invariant.1 c.requires.2),
+  N.le_of_lt (second_word (inverse_sum words31)
+      (inverse_difference words31 c.args.t) c.args.block.now c.args.half c.requires.0 c.loop-q.block c.loop-q.q c.loop-q-test.true
+      c.loop-q.invariant.1 c.requires.2),
+)
 
 pub sub-requires : goal.sub-requires
-sub-requires c = ((first_word (inverse_sum words31) (inverse_difference words31 c.args.t) c.args.block.now c.args.half c.requires.0 c.loop-q.block c.loop-q.q c.loop-q-test.true c.loop-q.invariant.1 c.requires.2), N.le_of_lt (second_word (inverse_sum words31) (inverse_difference words31 c.args.t) c.args.block.now c.args.half c.requires.0 c.loop-q.block c.loop-q.q c.loop-q-test.true c.loop-q.invariant.1 c.requires.2))
+sub-requires c = (
+  (first_word (inverse_sum words31) (inverse_difference words31 c.args.t) c.args.block.now c.args.half c.requires.0
+      c.loop-q.block c.loop-q.q c.loop-q-test.true c.loop-q.invariant.1 c.requires.2),
+  N.le_of_lt (second_word (inverse_sum words31)
+      (inverse_difference words31 c.args.t) c.args.block.now c.args.half c.requires.0 c.loop-q.block c.loop-q.q c.loop-q-test.true
+      c.loop-q.invariant.1 c.requires.2),
+)
 
 pub mul_by-requires : goal.mul_by-requires
 mul_by-requires c = (omega (arith, c.sub.ensures), search rules)

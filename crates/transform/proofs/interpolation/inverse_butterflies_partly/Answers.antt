@@ -15,7 +15,8 @@ use Rattle.transform.proofs.interpolation.inverse_butterflies_partly.Goals as go
 pub loop-q-init : goal.loop-q-init
 loop-q-init c = let block = c.args.block.now in (
   search rules,
-  halfway_start (inverse_sum words31) (inverse_difference words31 c.args.t) (reduced_words block) c.args.half (reduced-length block ∙ c.requires.0),
+  halfway_start (inverse_sum words31) (inverse_difference words31 c.args.t) (reduced_words block) c.args.half (reduced-length block
+      ∙ c.requires.0),
   refl,
   c.requires.2,
 )
@@ -43,12 +44,16 @@ loop-q-preserved c = let s = c in
     let first = sym (reduced-at block q) in
     let second = sym (reduced-at block other) in (
       omega arith,
-      reduced-set (set block q sum.result) other product.result ∙ ap (λ (r : List ℕ). set r other (product.result % P)) (reduced-set block q sum.result)
+      reduced-set (set block q sum.result) other product.result ∙ ap (λ (r : List ℕ). set r other (product.result % P)) (reduced-set
+          block q sum.result)
           ∙ halfway_next (inverse_sum words31) (inverse_difference words31 s.args.t) (reduced_words s.args.block.now) s.args.half
-          (reduced-length s.args.block.now ∙ s.requires.0) (reduced_words block) q c.loop-q-test.true c.loop-q.invariant.1 (sum.result % P) (product.result % P)
-          (partly_inverse_sum _ _ _ _ first second _ sum.ensures.0) (partly_inverse_difference _ _ _ _ first second s.args.t _ _ difference product.ensures.0),
+          (reduced-length s.args.block.now ∙ s.requires.0) (reduced_words block) q c.loop-q-test.true c.loop-q.invariant.1
+          (sum.result % P) (product.result % P)
+          (partly_inverse_sum _ _ _ _ first second _ sum.ensures.0) (partly_inverse_difference _ _ _ _ first second s.args.t _ _
+          difference product.ensures.0),
       simp (length-set) c.loop-q.invariant.2,
-      partly_set (set block q sum.result) other product.result (partly_set block q sum.result c.loop-q.invariant.3 sum.ensures.1) product.ensures.1,
+      partly_set (set block q sum.result) other product.result (partly_set block q sum.result c.loop-q.invariant.3 sum.ensures.1)
+          product.ensures.1,
     )
 
 pub shape_of-block : goal.shape_of-block
@@ -58,7 +63,8 @@ pub returns : goal.returns
 unfolding inverse_butterflies
 returns c = let block = c.args.block.now in (
   c.loop-q.invariant.1
-      ∙ halfway_end (inverse_sum words31) (inverse_difference words31 c.args.t) (reduced_words block) c.args.half (reduced-length block ∙ c.requires.0)
+      ∙ halfway_end (inverse_sum words31) (inverse_difference words31 c.args.t) (reduced_words block) c.args.half (reduced-length
+      block ∙ c.requires.0)
       c.loop-q.q c.loop-q.invariant.0 c.loop-q-test.false,
   c.loop-q.invariant.3,
 )

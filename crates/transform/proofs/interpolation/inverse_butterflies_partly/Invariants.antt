@@ -9,7 +9,8 @@ use Rattle.transform.proofs.interpolation.inverse_butterflies_partly.Given as go
 
 -- both halves are written up to q
 abbrev pub invariant-loop-q : goal.invariant-loop-q
-invariant-loop-q l = (l.q ≤ l.half) × (reduced_words l.block ≡ halfway (inverse_sum words31) (inverse_difference words31 l.t) (reduced_words l.initial.block) l.half l.q) × (length l.block ≡ length l.initial.block) × PartlyReduced l.block
+invariant-loop-q l = (l.q ≤ l.half) × (reduced_words l.block ≡ halfway (inverse_sum words31) (inverse_difference words31 l.t)
+    (reduced_words l.initial.block) l.half l.q) × (length l.block ≡ length l.initial.block) × PartlyReduced l.block
 
 abbrev pub decreases-loop-q : goal.decreases-loop-q
 decreases-loop-q l = l.half - l.q

@@ -26,7 +26,8 @@ bounds-tree-1 c = let l = c.fill_points in
 pub bounds-tree-0 : goal.bounds-tree-0
 bounds-tree-0 c =
     let l = c.fill_points in
-    let more = some_nodes c.args.log_size c.args.tree.now c.requires l.new.level l.auto.level c.double_levels.new.tree c.double_levels.auto.tree in
+    let more = some_nodes c.args.log_size c.args.tree.now c.requires l.new.level l.auto.level c.double_levels.new.tree
+    c.double_levels.auto.tree in
     omega arith
 
 pub shape_of-tree : goal.shape_of-tree

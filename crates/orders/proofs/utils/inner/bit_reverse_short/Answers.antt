@@ -26,7 +26,8 @@ loop-i-preserved c = let n = c.args.log_size in
     let l = c.args.v.now in
     let long = c.loop-i.invariant.1.long in (
       omega arith,
-      subst (Words n l (c.loop-i.i + 1)) (sym c.swap_if_before.ensures) (next_word n l c.requires.1 c.loop-i.i _ c.loop-i.v (omega arith) c.bit_reverse_index-j.ensures c.loop-i.invariant.1),
+      subst (Words n l (c.loop-i.i + 1)) (sym c.swap_if_before.ensures) (next_word n l c.requires.1 c.loop-i.i _ c.loop-i.v
+          (omega arith) c.bit_reverse_index-j.ensures c.loop-i.invariant.1),
     )
 
 pub shape_of-v : goal.shape_of-v

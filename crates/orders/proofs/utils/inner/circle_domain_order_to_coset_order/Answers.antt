@@ -12,10 +12,16 @@ copy_pair-requires c = let long = c.loop-i.invariant.1.long in
     search rules
 
 pub loop-i-preserved : goal.loop-i-preserved
-loop-i-preserved c = (search rules, subst (ToCoset c.args.values.now c.args.dst.now (c.loop-i.i + 1)) (sym c.copy_pair.ensures) (next_to_coset c.args.values.now c.args.dst.now c.requires.1 c.requires.0 c.loop-i.i c.loop-i.dst (search rules) c.loop-i.invariant.1))
+loop-i-preserved c = (
+  search rules,
+  subst (ToCoset c.args.values.now c.args.dst.now (c.loop-i.i + 1)) (sym c.copy_pair.ensures)
+      (next_to_coset c.args.values.now c.args.dst.now c.requires.1 c.requires.0 c.loop-i.i c.loop-i.dst (search rules)
+      c.loop-i.invariant.1),
+)
 
 pub shape_of-dst : goal.shape_of-dst
 shape_of-dst c = c.loop-i.invariant.1.long
 
 pub returns : goal.returns
-returns c = all_to_coset c.args.values.now c.args.dst.now c.requires.1 c.requires.0 c.loop-i.i c.loop-i.dst (search rules) c.loop-i.invariant.1
+returns c = all_to_coset c.args.values.now c.args.dst.now c.requires.1 c.requires.0 c.loop-i.i c.loop-i.dst (search rules)
+    c.loop-i.invariant.1

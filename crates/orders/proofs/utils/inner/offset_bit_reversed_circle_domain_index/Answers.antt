@@ -33,7 +33,8 @@ offset_element-other-requires c = let args = c.args in
 pub returns : goal.returns
 returns c = let args = c.args in
     let eval = args.eval_log_size in
-    let element = c.offset_element-other.ensures ∙ ap₂ (λ (h s : ℕ). offset_element args.back h c.bit_reverse_index-element.result (args.steps * s)) c.two_to-half.ensures c.two_to-places.ensures in
+    let element = c.offset_element-other.ensures ∙ ap₂ (λ (h s : ℕ). offset_element args.back h c.bit_reverse_index-element.result
+    (args.steps * s)) c.two_to-half.ensures c.two_to-places.ensures in
     offset_is eval args.domain_log_size c.requires.least
     c.requires.most args.i args.back args.steps _ _ _
     c.bit_reverse_index-element.ensures element c.bit_reverse_index.ensures

@@ -23,15 +23,20 @@ mask16 = 0x0000_ffff_0000_ffff
 abbrev mask32 : ℕ
 mask32 = 0x0000_0000_ffff_ffff
 
-reversed-law : (x : ℕ) → x < 2 ^ 64 → step mask32 32 (step mask16 16 (step mask8 8 (step mask4 4 (step mask2 2 (step mask1 1 x))))) ≡ reverse_bits 64 x
+reversed-law : (x : ℕ) → x < 2 ^ 64 → step mask32 32 (step mask16 16 (step mask8 8 (step mask4 4 (step mask2 2 (step mask1 1 x)))))
+    ≡ reverse_bits 64 x
 unfolding low_halves
 reversed-law x h =
     let e2 : step mask1 1 x ≡ reversed_fields 2 32 x = fields_step mask1 1 32 (x) x refl (bits_of x h) in
     let e4 : step mask2 2 (step mask1 1 x) ≡ reversed_fields 4 16 x = fields_step mask2 2 16 (step mask1 1 x) x refl e2 in
-    let e8 : step mask4 4 (step mask2 2 (step mask1 1 x)) ≡ reversed_fields 8 8 x = fields_step mask4 4 8 (step mask2 2 (step mask1 1 x)) x refl e4 in
-    let e16 : step mask8 8 (step mask4 4 (step mask2 2 (step mask1 1 x))) ≡ reversed_fields 16 4 x = fields_step mask8 8 4 (step mask4 4 (step mask2 2 (step mask1 1 x))) x refl e8 in
-    let e32 : step mask16 16 (step mask8 8 (step mask4 4 (step mask2 2 (step mask1 1 x)))) ≡ reversed_fields 32 2 x = fields_step mask16 16 2 (step mask8 8 (step mask4 4 (step mask2 2 (step mask1 1 x)))) x refl e16 in
-    let e64 : step mask32 32 (step mask16 16 (step mask8 8 (step mask4 4 (step mask2 2 (step mask1 1 x))))) ≡ reversed_fields 64 1 x = fields_step mask32 32 1 (step mask16 16 (step mask8 8 (step mask4 4 (step mask2 2 (step mask1 1 x))))) x refl e32 in
+    let e8 : step mask4 4 (step mask2 2 (step mask1 1 x)) ≡ reversed_fields 8 8 x = fields_step mask4 4 8 (step mask2 2 (step mask1
+    1 x)) x refl e4 in
+    let e16 : step mask8 8 (step mask4 4 (step mask2 2 (step mask1 1 x))) ≡ reversed_fields 16 4 x = fields_step mask8 8 4
+    (step mask4 4 (step mask2 2 (step mask1 1 x))) x refl e8 in
+    let e32 : step mask16 16 (step mask8 8 (step mask4 4 (step mask2 2 (step mask1 1 x)))) ≡ reversed_fields 32 2 x = fields_step
+    mask16 16 2 (step mask8 8 (step mask4 4 (step mask2 2 (step mask1 1 x)))) x refl e16 in
+    let e64 : step mask32 32 (step mask16 16 (step mask8 8 (step mask4 4 (step mask2 2 (step mask1 1 x))))) ≡ reversed_fields 64 1 x
+    = fields_step mask32 32 1 (step mask16 16 (step mask8 8 (step mask4 4 (step mask2 2 (step mask1 1 x))))) x refl e32 in
     e64 ∙ one_field x
 
 pub overflow_mul-a : goal.overflow_mul-a
@@ -65,7 +70,8 @@ pub overflow_add-e : goal.overflow_add-e
 overflow_add-e c = step_fits mask16 16 (step mask8 8 (step mask4 4 (step mask2 2 (step mask1 1 c.args.x)))) (lit< tt)
 
 pub overflow_mul-result : goal.overflow_mul-result
-overflow_mul-result c = product_fits mask32 32 (step mask16 16 (step mask8 8 (step mask4 4 (step mask2 2 (step mask1 1 c.args.x))))) (lit< tt)
+overflow_mul-result c = product_fits mask32 32 (step mask16 16 (step mask8 8 (step mask4 4 (step mask2 2 (step mask1 1 c.args.x)))))
+    (lit< tt)
 
 pub overflow_add-result : goal.overflow_add-result
 overflow_add-result c = step_fits mask32 32 (step mask16 16 (step mask8 8 (step mask4 4 (step mask2 2 (step mask1 1 c.args.x))))) (lit< tt)
