@@ -1,10 +1,11 @@
 -- What the passes count is what the definition says, over any field, and no count overflows.
-use Rattle.std.proofs.Common.{◌≡◌, ℕ, ◌+◌, ◌-◌, ◌*◌, ◌/◌, ◌%◌, ◌<◌, ◌≤◌, Bool, true, false, cond, eqb, ltb, List, sym, refl, ap, ◌∙◌, ap₂, arith, ltb-true, le-ltb, lt-ltb, eq-eqb, ne_eqb}
-use mathlib.Core.Bool.{and-eq-true_iff, and-false}
+use Rattle.std.proofs.Common.{◌≡◌, ℕ, ◌+◌, ◌-◌, ◌*◌, ◌/◌, ◌%◌, ◌<◌, ◌≤◌, Bool, true, false, cond, eqb, ltb, List, sym, refl, ap, ◌∙◌, ap₂}
+use Rattle.std.proofs.Common.{arith, ltb-true, eqb-true, eq-eqb, ne_eqb}
+use mathlib.Core.Bool.{and-eq-true_iff}
 use native.Mathlib.Nat as N
 use native.Mathlib.Decide.{dec_lt}
 use borrow.Author.Tests.{eqb-false}
-use Rattle.batch.specs.Counts.{counted, plain_pass, four_lane_pass, takes_four_lanes, pass_counts, over_chunks, chunked_counts}
+use Rattle.batch.specs.Counts.{counted, together, plain_pass, four_lane_pass, takes_four_lanes, pass_counts, over_chunks, chunked_counts}
 use Rattle.batch.specs.Passes.{Units, size, lane_units}
 use Rattle.batch.specs.PassContracts.{AfterProducts, AfterInverses, LanesInverted}
 use Rattle.batch.specs.declared.counts.Counts.{Counts}
@@ -13,8 +14,8 @@ use Rattle.batch.proofs.Montgomery.{one_more}
 -- ---- the passes, over any field
 
 -- none to invert
-pub nothing_counted : (n : ℕ) → n ≡ 0 → counted 0 0 ≡ plain_pass n
-nothing_counted n e = rw (eq-eqb n 0 e)
+pub nothing_counted : (n : ℕ) → n ≡ 0 → {made : Counts} → (made.multiplications ≡ 0) × (made.inversions ≡ 0) → made ≡ plain_pass n
+nothing_counted n e z = ap₂ counted z.0 z.1 ∙ rw (eq-eqb n 0 e)
 
 -- elements whose product is one multiplication
 module _ (U : Units) (single : U.multiplications ≡ 1) {column exit exit' : List ℕ} where
@@ -27,30 +28,39 @@ module _ (U : Units) (single : U.multiplications ≡ 1) {column exit exit' : Lis
       let sum : up + down ≡ 3 * n - 3 = omega (arith, upward, downward, some) in
       rw (ne_eqb n 0 (λ e. omega (arith, e, some)), sum)
 
-  pub four_lanes_counted : {whole four answer : (lane_units U).layout.El} {up nine one down : ℕ} → 0 < size (lane_units U) column
-      → AfterProducts (lane_units U) 4 column exit whole up → LanesInverted U four answer nine one
-      → AfterInverses (lane_units U) column exit' down
-      → counted (up + nine + down) one ≡ four_lane_pass (size (lane_units U) column * 4)
-  four_lanes_counted {up = up} {nine} {one} {down} some a b c =
+  pub four_lanes_counted : {whole four answer : (lane_units U).layout.El} {first up down : ℕ} {inverse : Counts}
+      → 0 < size (lane_units U) column → first ≡ 4 → AfterProducts (lane_units U) first column exit whole up
+      → LanesInverted U four answer inverse → AfterInverses (lane_units U) column exit' down
+      → counted (up + inverse.multiplications + down) inverse.inversions ≡ four_lane_pass (size (lane_units U) column * 4)
+  four_lanes_counted {first = first} {up} {down} some e a b c =
       let n = size (lane_units U) column in
-      let upward : up ≡ 4 + (n - 1) * 4 = a.multiplications ∙ ap (λ (each : ℕ). 4 + (n - 1) * (each + each + (each + each))) single in
+      let upward : up ≡ first + (n - 1) * 4
+      = a.multiplications ∙ ap (λ (each : ℕ). first + (n - 1) * (each + each + (each + each))) single in
       let downward : down ≡ (n - 1) * 8
       = c.multiplications ∙ ap (λ (each : ℕ). (n - 1) * (each + each + (each + each) + (each + each + (each + each)))) single in
-      ap₂ counted (omega (arith, upward, downward, b.nine, some)) b.one
+      let nine = ap (λ (k : Counts). k.multiplications) b.made in
+      ap₂ counted (omega (arith, e, upward, downward, nine, some)) (ap (λ (k : Counts). k.inversions) b.made)
 
 -- ---- which pass is taken
 
-pub plain_up_to_four : (n : ℕ) → n ≤ 4 → pass_counts n ≡ plain_pass n
+pub plain_counts : (n : ℕ) → takes_four_lanes n ≡ false → plain_pass n ≡ pass_counts n
 unfolding pass_counts
-plain_up_to_four n h = rw (le-ltb 4 n h)
+plain_counts n e = rw e
 
-pub plain_unless_multiple : (n : ℕ) → ¬ (n % 4 ≡ 0) → pass_counts n ≡ plain_pass n
+four_lane_counts : (n : ℕ) → takes_four_lanes n ≡ true → four_lane_pass n ≡ pass_counts n
 unfolding pass_counts
-plain_unless_multiple n h = rw (ne_eqb (n % 4) 0 h, and-false (ltb 4 n))
+four_lane_counts n e = rw e
 
-pub four_lanes_above_four : (n : ℕ) → 4 < n → n % 4 ≡ 0 → pass_counts n ≡ four_lane_pass n
-unfolding pass_counts
-four_lanes_above_four n h e = rw (lt-ltb 4 n h, eq-eqb (n % 4) 0 e)
+-- such a column is of more than 4 elements, a multiple of 4
+pub record Fours (n : ℕ) : Type 0 where
+  pub more : 4 < n
+  pub even : n % 4 ≡ 0
+  pub counts : four_lane_pass n ≡ pass_counts n
+
+pub fours : (n : ℕ) → takes_four_lanes n ≡ true → Fours n
+fours n e =
+    let both = (and-eq-true_iff (ltb 4 n) (eqb (n % 4) 0)).0 e in
+    record { more = ltb-true 4 n both.0; even = eqb-true (n % 4) 0 both.1; counts = four_lane_counts n e }
 
 -- ---- how much it can be
 
@@ -67,7 +77,7 @@ pass_few : (n : ℕ) → Few (pass_counts n) n
 unfolding pass_counts
 pass_few n =
     few_by_test (takes_four_lanes n) (four_lane_pass n) (plain_pass n) n
-    (λ e. let more = ltb-true 4 n ((and-eq-true_iff (ltb 4 n) (eqb (n % 4) 0)).0 e).0 in
+    (λ e. let more = (fours n e).more in
     record { multiplications = omega arith; inversions = omega arith })
     (λ e. few_by_test (eqb n 0) (counted 0 0) (counted (3 * n - 3) 1) n
     (λ z. record { multiplications = omega arith; inversions = omega arith })
@@ -151,10 +161,6 @@ unfolding chunked_counts
 no_chunks chunk = sym (ap₂ counted
     (no_chunk (λ k. (pass_counts k).multiplications) no_multiplications chunk)
     (no_chunk (λ k. (pass_counts k).inversions) no_inversions chunk))
-
--- what two made
-abbrev pub together : Counts → Counts → Counts
-together a b = counted (a.multiplications + b.multiplications) (a.inversions + b.inversions)
 
 -- a elements are whole chunks, and r more are the next
 pub next_chunk : (chunk a r : ℕ) → 0 < chunk → a % chunk ≡ 0 → r ≤ chunk

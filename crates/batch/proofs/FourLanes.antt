@@ -9,39 +9,53 @@ use Rattle.batch.specs.Passes.{Units, UnitColumn, Holds, size, at, inverses, pai
 use Rattle.batch.specs.PassContracts.{Inverting, Inverted, BeforeProducts}
 use Rattle.batch.proofs.Montgomery.{same_unit}
 use Rattle.batch.proofs.InvertedLists.{length-inverted, inverted_holds, is_inverted_whole}
-use Rattle.batch.proofs.CountLaws.{four_lanes_above_four}
+use Rattle.batch.proofs.CountLaws.{Fours}
 
 module _ (U : Units) where
-  open U use {layout, mul, inverse, Unit, mul-unit, inverse_first, inverse_second}
+  open U use {layout, mul, inverse, Unit, mul-unit, inverse_unit, inverse_first, inverse_second}
   open layout use {El, width, read}
 
   -- four inverses by one: x is the four, and whole their product
-  module _ (x : (El × El) × (El × El)) (u : (lane_units U).Unit x) {two three whole rest rest' rest'' : El}
-      (e : two ≡ mul x.0.0 x.0.1) (f : three ≡ mul two x.1.0) (g : whole ≡ mul three x.1.1)
-      (h : rest ≡ inverse whole) (i : rest' ≡ mul rest x.1.1)
-      (j : rest'' ≡ mul rest' x.1.0) where
-    two_unit : Unit two
+  module _ {x : (El × El) × (El × El)} (u : (lane_units U).Unit x) {two : El} (e : two ≡ mul x.0.0 x.0.1) where
+    pub two_unit : Unit two
     two_unit = same_unit U _ _ e (mul-unit _ _ u.0.0 u.0.1)
 
-    three_unit : Unit three
-    three_unit = same_unit U _ _ f (mul-unit _ _ two_unit u.1.0)
+    module _ {three : El} (f : three ≡ mul two x.1.0) where
+      pub three_unit : Unit three
+      three_unit = same_unit U _ _ f (mul-unit _ _ two_unit u.1.0)
 
-    rest_is : rest ≡ inverse (mul three x.1.1)
-    rest_is = h ∙ ap inverse g
+      module _ {whole : El} (g : whole ≡ mul three x.1.1) where
+        pub whole_unit : Unit whole
+        whole_unit = same_unit U _ _ g (mul-unit _ _ three_unit u.1.1)
 
-    rest'_is : rest' ≡ inverse (mul two x.1.0)
-    rest'_is = i ∙ ap (λ t. mul t x.1.1) rest_is ∙ inverse_first _ _ three_unit u.1.1 ∙ ap inverse f
+        module _ {rest : El} (h : rest ≡ inverse whole) where
+          pub rest_unit : Unit rest
+          rest_unit = same_unit U _ _ h (inverse_unit _ whole_unit)
 
-    rest''_is : rest'' ≡ inverse (mul x.0.0 x.0.1)
-    rest''_is = j ∙ ap (λ t. mul t x.1.0) rest'_is ∙ inverse_first _ _ two_unit u.1.0 ∙ ap inverse e
+          rest_is : rest ≡ inverse (mul three x.1.1)
+          rest_is = h ∙ ap inverse g
 
-    pub four_inverses : {a b c d : El} → d ≡ mul three rest → c ≡ mul two rest' → b ≡ mul x.0.0 rest'' → a ≡ mul rest'' x.0.1
-        → ((a, b), (c, d)) ≡ (lane_units U).inverse x
-    four_inverses k l m n =
-        four_path (n ∙ ap (λ t. mul t x.0.1) rest''_is ∙ inverse_first _ _ u.0.0 u.0.1)
-        (m ∙ ap (mul x.0.0) rest''_is ∙ inverse_second _ _ u.0.0 u.0.1)
-        (l ∙ ap (mul two) rest'_is ∙ inverse_second _ _ two_unit u.1.0)
-        (k ∙ ap (mul three) rest_is ∙ inverse_second _ _ three_unit u.1.1)
+          module _ {rest' : El} (i : rest' ≡ mul rest x.1.1) where
+            pub rest'_unit : Unit rest'
+            rest'_unit = same_unit U _ _ i (mul-unit _ _ rest_unit u.1.1)
+
+            rest'_is : rest' ≡ inverse (mul two x.1.0)
+            rest'_is = i ∙ ap (λ t. mul t x.1.1) rest_is ∙ inverse_first _ _ three_unit u.1.1 ∙ ap inverse f
+
+            module _ {rest'' : El} (j : rest'' ≡ mul rest' x.1.0) where
+              pub rest''_unit : Unit rest''
+              rest''_unit = same_unit U _ _ j (mul-unit _ _ rest'_unit u.1.0)
+
+              rest''_is : rest'' ≡ inverse (mul x.0.0 x.0.1)
+              rest''_is = j ∙ ap (λ t. mul t x.1.0) rest'_is ∙ inverse_first _ _ two_unit u.1.0 ∙ ap inverse e
+
+              pub four_inverses : {a b c d : El} → d ≡ mul three rest → c ≡ mul two rest' → b ≡ mul x.0.0 rest'' → a ≡ mul rest'' x.0.1
+                  → ((a, b), (c, d)) ≡ (lane_units U).inverse x
+              four_inverses k l m n =
+                  four_path (n ∙ ap (λ t. mul t x.0.1) rest''_is ∙ inverse_first _ _ u.0.0 u.0.1)
+                  (m ∙ ap (mul x.0.0) rest''_is ∙ inverse_second _ _ u.0.0 u.0.1)
+                  (l ∙ ap (mul two) rest'_is ∙ inverse_second _ _ two_unit u.1.0)
+                  (k ∙ ap (mul three) rest_is ∙ inverse_second _ _ three_unit u.1.1)
 
   -- elements two by two
   even_place : (k : ℕ) → k * 2 * width ≡ k * (width + width)
@@ -84,7 +98,7 @@ module _ (U : Units) where
           ap (at U dst) (sym q) ∙ odd k (omega arith) ∙ ap (inverses U column) q
 
 -- four elements at a time
-module _ (U : Units) {column dst : List ℕ} (p : Inverting U column dst) (fours : size U column % 4 ≡ 0) where
+module _ (U : Units) {column dst : List ℕ} (p : Inverting U column dst) (f : Fours (size U column)) where
   abbrev n : ℕ
   n = size U column
 
@@ -100,7 +114,7 @@ module _ (U : Units) {column dst : List ℕ} (p : Inverting U column dst) (fours
       = sym (N.div-div-eq-div-mul (length column) (U.layout.width * 2) 2)
       ∙ ap (λ (k : ℕ). k / 2) (sym (N.div-div-eq-div-mul (length column) U.layout.width 2)) in
       let same : m ≡ n / 2 / 2 = ap (λ (w : ℕ). length column / w) (quadruple U.layout.width) ∙ by_two in
-      omega (arith, same, fours)
+      omega (arith, same, f.even)
 
   lane_words : m * (lane_units U).layout.width ≡ n * U.layout.width
   lane_words =
@@ -110,13 +124,13 @@ module _ (U : Units) {column dst : List ℕ} (p : Inverting U column dst) (fours
       rearranged m w =
           ap (◌*◌ m) (N.mul_assoc w 2 2 ∙ N.mul_comm w 4) ∙ sym (N.mul_assoc m 4 w) ∙ ap (λ (k : ℕ). k * w) (sym (N.mul_assoc m 2 2))
 
-  pub lanes_start : 0 < length column → BeforeProducts (lane_units U) column dst
-  lanes_start h = record {
+  pub lanes_start : BeforeProducts (lane_units U) column dst
+  lanes_start = record {
     elements =
         pair_column (pair_units U) m column
         (pair_column U (m * 2) column (subst (λ (k : ℕ). UnitColumn U k column) four_each p.elements));
     room = p.room;
-    nonempty = h;
+    nonempty = omega (arith, f.more, N.div-le_self (length column) U.layout.width);
   }
 
   -- the lanes leave what one by one would
@@ -135,5 +149,5 @@ module _ (U : Units) {column dst : List ℕ} (p : Inverting U column dst) (fours
       enough = omega (arith, lane_words, p.room, p.elements.whole)
 
   -- and count as the four-lane pass does
-  pub lanes_counted : 4 < n → four_lane_pass (m * 4) ≡ pass_counts n
-  lanes_counted more = ap four_lane_pass (omega (arith, four_each)) ∙ sym (four_lanes_above_four n more fours)
+  pub lanes_counted : four_lane_pass (m * 4) ≡ pass_counts n
+  lanes_counted = ap four_lane_pass (omega (arith, four_each)) ∙ f.counts

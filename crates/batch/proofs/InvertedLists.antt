@@ -1,5 +1,6 @@
 -- The list that an inversion leaves: it is known by its elements and the words after them.
-use Rattle.std.proofs.Common.{◌≡◌, ℕ, zero, suc, ◌+◌, ◌*◌, ◌/◌, ◌%◌, ◌<◌, ◌≤◌, List, length, get_or, sym, refl, ap, ◌∙◌, inr, arith, ext_get_or}
+use Rattle.std.proofs.Common.{◌≡◌, ℕ, zero, suc, ◌+◌, ◌*◌, ◌/◌, ◌%◌, ◌<◌, ◌≤◌, List, length, get_or, sym, refl, ap, ◌∙◌, inr, arith}
+use Rattle.std.proofs.Common.{ext_get_or}
 use native.Mathlib.Nat as N
 use native.Mathlib.Decide.{dec_lt}
 use lib.ListN.{get_or-eq_default}
@@ -66,11 +67,14 @@ module _ (U : Units) where
         is_inverted n l e (omega arith) h
         (λ j le. get_or-eq_default l 0 {n = j} (omega arith) ∙ sym (get_or-eq_default dst 0 {n = j} (omega arith)))
 
+  pub no_elements : (column : List ℕ) → length column ≡ 0 → size U column ≡ 0
+  no_elements column e = ap (λ (l : ℕ). l / width) e ∙ N.zero-div width
+
   -- none to invert
   pub none_inverted : {column dst : List ℕ} → length column ≡ 0 → Inverted U column dst dst
   unfolding inverted
   none_inverted {column} {dst} e = record {
-    result = ap (λ (n : ℕ). inverted layout inverse n column dst) (sym (ap (λ (l : ℕ). l / width) e ∙ N.zero-div width));
+    result = ap (λ (n : ℕ). inverted layout inverse n column dst) (sym (no_elements column e));
   }
 
   -- both passes together

@@ -4,17 +4,14 @@ use lib.Bits.{bit_or}
 use borrow.Author.Tests.{lt-leb}
 use Rattle.algebra.specs.M31.{P}
 use Rattle.fields.specs.Check.{outcome}
-use Rattle.fields.specs.declared.check.Check.TheVariants.{Passed}
+use Rattle.std.specs.Prelude.{Ok}
 use Rattle.fields.specs.Seen.{Seen, or_above}
 use Rattle.batch.specs.Batch.{m31_column, invertible}
-use Rattle.batch.proofs.Batches.{passed}
+use Rattle.batch.proofs.Checks.{passed}
 
 -- the word less 1 and the word plus 1, modulo 2^32
 abbrev pub around : ℕ → ℕ
 around w = bit_or ((w + 4294967295) % 4294967296) ((w + 1) % 4294967296)
-
-pub less_one : (w less : ℕ) → less < 4294967296 → (less + 1) % 4294967296 ≡ w → less ≡ (w + 4294967295) % 4294967296
-less_one w less l e = omega arith
 
 in_range : (w seen : ℕ) → w < 4294967296 → around w ≤ seen → seen < 2147483648 → (w < P) × (w ≡ 0 → ⊥)
 in_range w seen h a l =
@@ -23,7 +20,7 @@ in_range w seen h a l =
 
 pub seen_passed : (column : List ℕ) (seen : ℕ) → ((j : ℕ) → get_or column j 0 < 4294967296) → Seen around column (length column) seen
     → seen < 2147483648
-    → outcome (invertible m31_column column) ≡ Passed
+    → outcome (invertible m31_column column) ≡ Ok tt
 seen_passed column seen fit h l =
     passed m31_column column
     (record { none = λ j lt. lt-leb P (get_or column j 0) (word j lt).0 })

@@ -2,7 +2,7 @@ pub mod Montgomery
 pub mod InvertedLists
 pub mod CountLaws
 pub mod FourLanes
-pub mod Units
-pub mod Batches
+pub mod Checks
 pub mod Invertible
 pub mod Parts
+pub mod Chunks

@@ -1,10 +1,10 @@
 -- Montgomery's trick over any units: the steps of both passes, what they leave, and what they count.
-use Rattle.std.proofs.Common.{◌≡◌, ℕ, zero, suc, ◌+◌, ◌-◌, ◌*◌, ◌<◌, ◌≤◌, ◌⊎◌, List, length, sym, refl, ap, ◌∙◌, ap₂, inl, inr, arith}
+use Rattle.std.proofs.Common.{◌≡◌, ℕ, zero, suc, ◌+◌, ◌-◌, ◌*◌, ◌<◌, ◌≤◌, ◌⊎◌, List, length, sym, ap, ◌∙◌, ap₂, inl, inr, arith}
 use mathlib.Core.Path.{subst⁻¹}
 use native.Mathlib.Nat as N
 use native.Mathlib.Decide.{dec_lt}
 use Rattle.batch.specs.Layouts.{read_other}
-use Rattle.batch.specs.Passes.{Units, UnitColumn, Holds, size, at, product, inverses}
+use Rattle.batch.specs.Passes.{Units, IsOne, UnitColumn, Holds, size, at, product, inverses}
 use Rattle.batch.specs.PassContracts.{Inverting, BeforeProducts, AfterProducts, BeforeInverses, AfterInverses}
 
 -- element k of n lies within n elements
@@ -26,6 +26,10 @@ module _ (U : Units) where
   -- what equals a unit is one
   pub same_unit : (a b : El) → a ≡ b → Unit b → Unit a
   same_unit a b e u = subst⁻¹ Unit e u
+
+  -- a product with one
+  pub from_ones : {one a b c : El} → c ≡ mul one a → IsOne U one → Unit a → a ≡ b → c ≡ b
+  from_ones e o u f = e ∙ o.1 _ u ∙ f
 
   product_unit : (column : List ℕ) (n k : ℕ) → UnitColumn U n column → k < n → Unit (product U column k)
   unfolding product
@@ -111,12 +115,11 @@ module _ (U : Units) where
       → k * width + width ≤ length dst
   place {column} {n} c dst k l h = omega (arith, within width k n h, c.whole)
 
-  -- going up: of n elements those below k are the products, and whole is the last of them; made are the multiplications so far,
-  -- `first` of them for the first element
-  pub record Up (first : ℕ) (column dst : List ℕ) (n k : ℕ) (whole : El) (made : ℕ) : Type 0 where
-    pub count : n ≡ size U column
+  -- going up: the elements below k are the products, and whole is the last of them; made are the multiplications so far, `first`
+  -- of them for the first element
+  pub record Up (first : ℕ) (column dst : List ℕ) (k : ℕ) (whole : El) (made : ℕ) : Type 0 where
     pub some : 0 < k
-    pub most : k ≤ n
+    pub most : k ≤ size U column
     pub long : length dst ≡ length column
     pub last : whole ≡ product U column (k - 1)
     pub below : Holds U (product U column) 0 k dst
@@ -124,11 +127,10 @@ module _ (U : Units) where
 
   module _ {column dst₀ : List ℕ} (p : BeforeProducts U column dst₀) where
     pub up_start : {first : ℕ} {after : List ℕ} {whole : El} → whole ≡ at U column 0 → after ≡ write dst₀ (0 * width) whole
-        → Up first column after (size U column) 1 whole first
+        → Up first column after 1 whole first
     unfolding product
     up_start {first} {after} {whole} e wrote =
         let some = some_elements p.elements p.nonempty in record {
-          count = refl;
           some = omega arith;
           most = some;
           long = length-after (product U column) dst₀ 0 whole after wrote ∙ p.room;
@@ -142,34 +144,24 @@ module _ (U : Units) where
     pub first_unit : {a : El} → a ≡ at U column 0 → Unit a
     first_unit e = element_unit p.elements 0 (some_elements p.elements p.nonempty) e
 
-    pub up_unit : {dst : List ℕ} {first n k : ℕ} {whole : El} {made : ℕ} → Up first column dst n k whole made → Unit whole
+    pub up_unit : {dst : List ℕ} {first k : ℕ} {whole : El} {made : ℕ} → Up first column dst k whole made → Unit whole
     up_unit {k = k} u =
-        same_unit _ _ u.last (product_unit column (size U column) (k - 1) p.elements (omega (arith, u.count, u.some, u.most)))
+        same_unit _ _ u.last (product_unit column (size U column) (k - 1) p.elements (omega (arith, u.some, u.most)))
 
-    pub up_next : {dst after : List ℕ} {first n k : ℕ} {whole a whole' : El} {made : ℕ} → Up first column dst n k whole made → k < n
-        → a ≡ at U column k → whole' ≡ mul whole a → after ≡ write dst (k * width) whole'
-        → Up first column after n (k + 1) whole' (made + U.multiplications)
-    up_next {dst} {after} {n = n} {k} {whole} {a} {whole'} u h e f wrote =
+    pub up_next : {dst after : List ℕ} {first k : ℕ} {whole a whole' : El} {made : ℕ} → Up first column dst k whole made → k < size U column
+        → a ≡ at U column k → whole' ≡ mul whole a → after ≡ write dst (k * width) whole' → {each : ℕ} → each ≡ U.multiplications
+        → Up first column after (k + 1) whole' (made + each)
+    up_next {dst} {after} {k = k} {whole} {a} {whole'} u h e f wrote m =
         let g = f ∙ next_product column k whole a u.some u.last e in
         let same : k + 1 - 1 ≡ k = omega arith in record {
-          count = u.count;
           some = omega arith;
           most = omega arith;
           long = length-after (product U column) dst k whole' after wrote ∙ u.long;
           last = g;
           below =
               holds_next (product U column) dst k whole' after wrote u.below
-              (place p.elements dst k u.long (omega (arith, u.count))) (g ∙ ap (product U column) same);
-          multiplications = omega (arith, u.multiplications, one_more (k - 1) (k + 1 - 1) U.multiplications (omega (arith, u.some)));
-        }
-
-    pub up_end : {dst : List ℕ} {first n k : ℕ} {whole : El} {made : ℕ} → Up first column dst n k whole made → n ≤ k
-        → AfterProducts U first column dst whole made
-    up_end {dst} {first} {n} {k} u h =
-        let all : k ≡ size U column = omega (arith, u.count, u.most) in record {
-          whole = u.last ∙ ap (λ (j : ℕ). product U column (j - 1)) all;
-          products = holds_part (product U column) dst 0 0 k (size U column) (omega arith) (omega arith) u.below;
-          multiplications = u.multiplications ∙ ap (λ (j : ℕ). first + (j - 1) * U.multiplications) all;
+              (place p.elements dst k u.long h) (g ∙ ap (product U column) same);
+          multiplications = omega (arith, m, u.multiplications, one_more (k - 1) (k + 1 - 1) U.multiplications (omega (arith, u.some)));
         }
 
     -- the whole product can be inverted
@@ -177,17 +169,6 @@ module _ (U : Units) where
     whole_unit w =
         let some = some_elements p.elements p.nonempty in
         same_unit _ _ w.whole (product_unit column (size U column) (size U column - 1) p.elements (omega arith))
-
-    -- from the end of the pass up the pass down starts
-    pub before_inverses : {first : ℕ} {exit : List ℕ} {whole rest : El} {made : ℕ} → AfterProducts U first column exit whole made
-        → length exit ≡ length dst₀ → rest ≡ inverse whole → BeforeInverses U column exit rest
-    before_inverses w l e = record {
-      elements = p.elements;
-      room = l ∙ p.room;
-      nonempty = p.nonempty;
-      products = w.products;
-      inverse = e ∙ ap inverse w.whole;
-    }
 
   -- going down: the elements below k are still the products, those above it inverses, and rest is the inverse of the product up to
   -- k; made are the multiplications so far, two products for each element above k
@@ -200,20 +181,6 @@ module _ (U : Units) where
     pub multiplications : made ≡ (size U column - 1 - k) * (U.multiplications + U.multiplications)
 
   module _ {column dst₀ : List ℕ} {rest₀ : El} (p : BeforeInverses U column dst₀ rest₀) where
-    pub down_start : Down column dst₀ (size U column - 1) rest₀ 0
-    down_start =
-        let some = some_elements p.elements p.nonempty in
-        let n = size U column in record {
-          low = omega arith;
-          long = p.room;
-          inverted-product = p.inverse;
-          below = holds_part (product U column) dst₀ 0 0 n (n - 1) (omega arith) (omega arith) p.products;
-          above = holds_none (inverses U column) dst₀ (n - 1 + 1) n (omega arith);
-          multiplications =
-              sym (ap (λ (j : ℕ). j * (U.multiplications + U.multiplications)) (N.sub_self (n - 1))
-              ∙ N.zero-mul (U.multiplications + U.multiplications));
-        }
-
     pub down_unit : {dst : List ℕ} {k : ℕ} {rest : El} {made : ℕ} → Down column dst k rest made → Unit rest
     down_unit {k = k} d =
         same_unit _ _ d.inverted-product (U.inverse_unit _ (product_unit column (size U column) k p.elements d.low))
@@ -229,8 +196,8 @@ module _ (U : Units) where
 
     pub down_next : {dst after : List ℕ} {k : ℕ} {rest a last x rest' : El} {made : ℕ} → Down column dst k rest made → 0 < k
         → a ≡ at U column k → last ≡ at U dst (k - 1) → x ≡ mul last rest → rest' ≡ mul rest a → after ≡ write dst (k * width) x
-        → Down column after (k - 1) rest' (made + U.multiplications + U.multiplications)
-    down_next {dst} {after} {k} {rest} {a} {last} {x} d h e f g i wrote =
+        → {each each' : ℕ} → each ≡ U.multiplications → each' ≡ U.multiplications → Down column after (k - 1) rest' (made + each + each')
+    down_next {dst} {after} {k} {rest} {a} {last} {x} d h e f g i wrote m m' =
         let n = size U column in
         let y = g ∙ inverse_at column n p.elements k last rest h d.low (last_is d h f) d.inverted-product in record {
           low = omega (arith, d.low);
@@ -243,6 +210,8 @@ module _ (U : Units) where
           multiplications =
               omega (
                 arith,
+                m,
+                m',
                 d.multiplications,
                 one_more (n - 1 - k) (n - 1 - (k - 1)) (U.multiplications + U.multiplications) (omega (arith, d.low)),
               );

@@ -1,14 +1,13 @@
 -- Batch inversion, for any field: element k of the destination becomes the inverse of element k of the column.
 use Rattle.std.specs.Prelude.{ℕ, zero, suc, ◌+◌, ◌*◌, ◌/◌, ◌%◌, Bool, not, ◌&&◌, List, ◌++◌, length, ◌==◌, nat_le, slice_index, slice_set}
+use Rattle.std.specs.Prelude.{Result, Ok, Err}
 use Rattle.fields.specs.Words.{inv_p, complex_inverse, quartic_inverse}
 use Rattle.fields.specs.Check.{Checks, need, checked}
 use Rattle.fields.specs.Search.{first}
 use Rattle.fields.specs.Columns.{words}
 use Rattle.batch.specs.Counts.{pass_counts, chunked_counts}
-use Rattle.batch.specs.declared.Field.{Field}
-use Rattle.batch.specs.declared.Field.TheVariants as F
-use Rattle.batch.specs.declared.counts.BatchAnswer.{BatchAnswer}
-use Rattle.batch.specs.declared.counts.BatchAnswer.TheVariants.{Value, Refused}
+use Rattle.batch.specs.declared.counts.Counts.{Counts}
+use Rattle.fields.specs.declared.refusal.Refusal.{Refusal}
 use Rattle.fields.specs.declared.refusal.Refusal.TheVariants.{Length, Chunk, Inverse}
 
 -- How an element lies in a column: so many words, read and written from a word on.
@@ -53,11 +52,6 @@ qm31_column = record {
   is_zero = λ p. (p.0.0 == 0) && p.0.1 == 0 && (p.1.0 == 0 && p.1.1 == 0);
 }
 
-unfoldable pub column_of : Field → ColumnField
-column_of F.M31 = m31_column
-column_of F.CM31 = cm31_column
-column_of F.QM31 = qm31_column
-
 -- dst with its first n elements replaced by the inverses of the column's, the other words as they were
 unfoldable pub inverted : (L : Layout) → (L.El → L.El) → ℕ → List ℕ → List ℕ → List ℕ
 inverted L inverse zero column dst = dst
@@ -68,9 +62,13 @@ module _ (F : ColumnField) where
   abbrev pub count : List ℕ → ℕ
   count column = length column / F.layout.width
 
+  -- whether element k is zero
+  abbrev pub zero_at : List ℕ → ℕ → Bool
+  zero_at column k = F.is_zero (F.layout.read column (k * F.layout.width))
+
   -- the place of the first zero element, the count where there is none
   abbrev pub first_zero : List ℕ → ℕ
-  first_zero column = first (λ k. F.is_zero (F.layout.read column (k * F.layout.width))) (count column)
+  first_zero column = first (zero_at column) (count column)
 
   -- whole numbers of elements, the destination no shorter than the column
   abbrev pub lengths_fit : (column dst : ℕ) → Bool
@@ -94,14 +92,14 @@ module _ (F : ColumnField) where
       need (lengths_fit (length column) dst) Length ++ need (not (chunk == 0)) Chunk ++ invertible column
 
   -- the counts of one pass over the column
-  unfoldable pub in_place_answer : List ℕ → ℕ → BatchAnswer
-  in_place_answer column dst = checked (in_place_checks column dst) Refused (Value (pass_counts (count column)))
+  unfoldable pub in_place_answer : List ℕ → ℕ → Result Counts Refusal
+  in_place_answer column dst = checked (in_place_checks column dst) (pass_counts (count column))
 
   -- the counts of one pass over each chunk
-  unfoldable pub chunked_answer : ℕ → List ℕ → ℕ → BatchAnswer
-  chunked_answer chunk column dst = checked (chunked_checks chunk column dst) Refused (Value (chunked_counts chunk (count column)))
+  unfoldable pub chunked_answer : ℕ → List ℕ → ℕ → Result Counts Refusal
+  chunked_answer chunk column dst = checked (chunked_checks chunk column dst) (chunked_counts chunk (count column))
 
   -- what a call with this answer leaves in the destination
-  unfoldable pub batch_exit : BatchAnswer → List ℕ → List ℕ → List ℕ
-  batch_exit (Value counts) column dst = inverted F.layout F.inverse (count column) column dst
-  batch_exit (Refused why) column dst = dst
+  unfoldable pub batch_exit : Result Counts Refusal → List ℕ → List ℕ → List ℕ
+  batch_exit (Ok counts) column dst = inverted F.layout F.inverse (count column) column dst
+  batch_exit (Err why) column dst = dst

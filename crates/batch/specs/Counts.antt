@@ -1,11 +1,19 @@
 -- How much work a batch did: the multiplications of elements and the inversions that its passes made, an inversion's own products
 -- left out.
-use Rattle.std.specs.Prelude.{ℕ, ◌+◌, ◌-◌, ◌*◌, ◌/◌, ◌%◌, Bool, cond, ◌&&◌, ◌==◌, nat_lt}
+use Rattle.std.specs.Prelude.{ℕ, ◌+◌, ◌-◌, ◌*◌, ◌/◌, ◌%◌, ◌^◌, ◌<◌, Bool, cond, ◌&&◌, ◌==◌, nat_lt}
 use Rattle.batch.specs.declared.counts.Counts.{Counts}
 
 -- so many multiplications and inversions
 abbrev pub counted : (multiplications inversions : ℕ) → Counts
 counted multiplications inversions = record { multiplications = multiplications; inversions = inversions }
+
+-- what two made
+abbrev pub together : Counts → Counts → Counts
+together a b = counted (a.multiplications + b.multiplications) (a.inversions + b.inversions)
+
+-- no sum overflows
+abbrev pub both_fit : Counts → Counts → Type 0
+both_fit a b = (a.multiplications + b.multiplications < 2 ^ 64) × (a.inversions + b.inversions < 2 ^ 64)
 
 -- the plain pass over n elements; over none it makes nothing
 abbrev pub plain_pass : ℕ → Counts

@@ -11,8 +11,10 @@ pub record LayoutLaws (L : Layout) : Type 0 where
   pub read_same : (l : List ℕ) (i : ℕ) (x : L.El) → i + L.width ≤ length l → L.read (L.write l i x) i ≡ x
   pub word_other : (l : List ℕ) (i : ℕ) (x : L.El) (j : ℕ) → (j < i) ⊎ (i + L.width ≤ j) → slice_index (L.write l i x) j ≡ slice_index l j
   -- an element is its words
-  pub read-words : (l m : List ℕ) (i k : ℕ) → ((j : ℕ) → j < L.width → slice_index l (i + j) ≡ slice_index m (k + j)) → L.read l i ≡ L.read m k
-  pub words-read : (l m : List ℕ) (i k : ℕ) → L.read l i ≡ L.read m k → (j : ℕ) → j < L.width → slice_index l (i + j) ≡ slice_index m (k + j)
+  pub read-words : (l m : List ℕ) (i k : ℕ) → ((j : ℕ) → j < L.width → slice_index l (i + j) ≡ slice_index m (k + j))
+      → L.read l i ≡ L.read m k
+  pub words-read : (l m : List ℕ) (i k : ℕ) → L.read l i ≡ L.read m k → (j : ℕ) → j < L.width
+      → slice_index l (i + j) ≡ slice_index m (k + j)
 
 word_at : (l m : List ℕ) (i k j : ℕ) → slice_index l i ≡ slice_index m k → j < 1 → slice_index l (i + j) ≡ slice_index m (k + j)
 word_at l m i k j e h = ap (λ (n : ℕ). slice_index l n) (no_offset i j h) ∙ e ∙ ap (λ (n : ℕ). slice_index m n) (sym (no_offset k j h))
@@ -26,7 +28,8 @@ word_laws = record {
   length_write = length-set;
   read_same = λ l i x h. get_or-set_same l i x 0 (omega arith);
   word_other = λ l i x j h. get_or-set_other l i j x 0 (outside_differs i j h);
-  read-words = λ l m i k h. ap (λ (n : ℕ). slice_index l n) (sym (N.add-zero i)) ∙ h 0 (omega arith) ∙ ap (λ (n : ℕ). slice_index m n) (N.add-zero k);
+  read-words = λ l m i k h.
+      ap (λ (n : ℕ). slice_index l n) (sym (N.add-zero i)) ∙ h 0 (omega arith) ∙ ap (λ (n : ℕ). slice_index m n) (N.add-zero k);
   words-read = λ l m i k e j h. word_at l m i k j e h;
 }
   where

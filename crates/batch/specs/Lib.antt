@@ -5,4 +5,5 @@ pub mod Batch
 pub mod Layouts
 pub mod Passes
 pub mod PassContracts
-pub mod Lanes
+pub mod Elements
+pub mod Instances

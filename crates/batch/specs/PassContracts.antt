@@ -1,6 +1,8 @@
 -- What the passes of Montgomery's trick take and leave, for any units.
-use Rattle.std.specs.Prelude.{◌≡◌, ℕ, ◌+◌, ◌-◌, ◌*◌, ◌/◌, ◌<◌, ◌≤◌, List, length}
+use Rattle.std.specs.Prelude.{◌≡◌, ℕ, ◌+◌, ◌-◌, ◌*◌, ◌<◌, ◌≤◌, List, length}
 use Rattle.batch.specs.Batch.{inverted}
+use Rattle.batch.specs.Counts.{counted}
+use Rattle.batch.specs.declared.counts.Counts.{Counts}
 use Rattle.batch.specs.Passes.{Units, UnitColumn, Holds, size, product, inverses, lane_units}
 
 module _ (U : Units) where
@@ -16,12 +18,10 @@ module _ (U : Units) where
     pub elements : UnitColumn U (size U column) column
     pub room : length dst ≡ length column
 
-  -- a column to be inverted part after part of so many words, and a destination no shorter
-  pub record InvertingParts (column dst : List ℕ) (words : ℕ) : Type 0 where
+  -- a column to be inverted, and a destination no shorter
+  pub record InvertingInto (column dst : List ℕ) : Type 0 where
     pub elements : UnitColumn U (size U column) column
     pub room : length column ≤ length dst
-    pub some : 0 < length column → 0 < words
-    pub even : words ≡ words / width * width
 
   -- an inversion leaves the inverses, and the words after them as they were
   pub record Inverted (column dst exit : List ℕ) : Type 0 where
@@ -54,7 +54,6 @@ module _ (U : Units) where
     pub multiplications : made ≡ (size U column - 1) * (U.multiplications + U.multiplications)
 
   -- the inverses of four elements, by nine products and one inversion
-  pub record LanesInverted (four answer : (lane_units U).layout.El) (multiplications inversions : ℕ) : Type 0 where
+  pub record LanesInverted (four answer : (lane_units U).layout.El) (counts : Counts) : Type 0 where
     pub lanes : answer ≡ (lane_units U).inverse four
-    pub nine : multiplications ≡ 9
-    pub one : inversions ≡ 1
+    pub made : counts ≡ counted 9 1

@@ -9,8 +9,6 @@ use Rattle.batch.specs.Batch.{Layout, word_layout, pair_layout}
 use Rattle.batch.specs.Layouts.{LayoutLaws, word_laws, pair_laws}
 use Rattle.fields.specs.Representation.{Representation}
 use Rattle.fields.specs.Representation as R
-use Rattle.batch.specs.declared.Field.{Field}
-use Rattle.batch.specs.declared.Field.TheVariants as F
 use Rattle.fields.specs.Inverse.{m31_representation, cm31_representation, qm31_representation}
 
 -- elements that lie in columns, those that can be inverted, and what the passes need to know of them
@@ -42,6 +40,10 @@ field_units W K H width read write laws = record {
   inverse_first = R.inverse_first W K H;
   inverse_second = R.inverse_second W K H;
 }
+
+-- one can be inverted, and times what can be inverted gives that
+abbrev pub IsOne : (U : Units) → U.layout.El → Type 0
+IsOne U one = U.Unit one × ((a : U.layout.El) → U.Unit a → U.mul one a ≡ a)
 
 -- units two side by side, each by itself
 abbrev pub pair_units : Units → Units
@@ -77,11 +79,6 @@ qm31_layout = pair_layout cm31_layout
 abbrev pub qm31_units : Units
 qm31_units = field_units quartic_words qm31 qm31_representation 4 qm31_layout.read qm31_layout.write
     (pair_laws cm31_layout (pair_laws word_layout word_laws))
-
-unfoldable pub units_of : Field → Units
-units_of F.M31 = m31_units
-units_of F.CM31 = cm31_units
-units_of F.QM31 = qm31_units
 
 module _ (U : Units) where
   open U.layout use {El, width, read}

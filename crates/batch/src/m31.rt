@@ -1,274 +1,56 @@
-// Montgomery's trick on columns of M31, one inversion for a whole column (the passes of stwo's fields/mod.rs). The
-// columns are known to hold elements that can be inverted: these are no public calls.
-ghost use Rattle.std.specs.Prelude.{◌≡◌, ◌+◌, ◌*◌, ◌≤◌, length};
-ghost use Rattle.batch.specs.Counts.{plain_pass, four_lane_pass, pass_counts};
-ghost use Rattle.batch.specs.Passes.{size, lane_units, m31_units};
-ghost use Rattle.batch.specs.PassContracts.{Factors, Inverting, Inverted, BeforeProducts};
-ghost use Rattle.batch.specs.PassContracts.{AfterProducts, BeforeInverses, AfterInverses, LanesInverted};
-ghost use Rattle.batch.specs.Lanes.{m31_lanes};
+// Columns of M31.
+ghost use Rattle.batch.specs.Batch.{m31_column};
+ghost use Rattle.batch.specs.Passes.{m31_units};
+ghost use Rattle.batch.specs.Instances.{m31_constants, m31_laws};
 
-use crate::counts::Counts;
-use fields::m31::inner::{mul, pow2147483645};
+use crate::element::{Column, Element};
+use fields::field::Field;
+use fields::m31::M31;
 
-// words of an element
-const WIDTH: usize = 1;
+// 2^31
+const TWO_POW_31: u32 = 2147483648;
 
-// words of four
-const LANES_WIDTH: usize = 4;
+impl Element for M31 {
+    ghost units = { m31_units };
 
-// multiplications in a product of lanes
-const LANES: u64 = 4;
+    ghost value = { λ a. a.0 };
 
-// The element at a word.
-pub fn load(column: &[u32], from: usize) -> u32
-    requires { from + 1 ≤ length column.now }
-    ensures { result ≡ m31_units.layout.read column.now from }
-{
-    column[from]
-}
+    ghost WIDTH = { 1 };
 
-fn store(dst: &mut [u32], to: usize, a: u32)
-    requires { to + 1 ≤ length dst.old }
-    ensures { dst.new ≡ m31_units.layout.write dst.old to a }
-{
-    dst[to] = a;
-}
+    ghost MULTIPLICATIONS = { 1 };
 
-// The product of a column, and the multiplications made for it.
-#[derive(Clone, Copy)]
-pub struct Product {
-    pub whole: u32,
-    pub multiplications: u64,
-}
+    ghost constants = { m31_constants };
 
-// Element k of the destination becomes the product of the elements 0 to k of the column; the whole product.
-fn products(column: &[u32], dst: &mut [u32]) -> Product
-    requires { BeforeProducts m31_units column.now dst.old }
-    ensures { AfterProducts m31_units 0 column.now dst.new result.whole result.multiplications }
-{
-    let n = column.len() / WIDTH;
-    let mut multiplications: u64 = 0;
-    let mut whole = load(column, 0);
-    store(dst, 0, whole);
-    let mut k: usize = 1;
-    while k < n {
-        let a = load(column, k * WIDTH);
-        whole = mul(whole, a);
-        multiplications += 1;
-        store(dst, k * WIDTH, whole);
-        k += 1;
+    const WIDTH: usize = 1;
+
+    const MULTIPLICATIONS: u64 = 1;
+
+    fn load(column: &[u32], from: usize) -> M31 {
+        M31(column[from])
     }
-    Product {
-        whole: whole,
-        multiplications: multiplications,
+
+    fn store(self, dst: &mut [u32], to: usize) {
+        dst[to] = self.0;
+    }
+
+    fn multiply(self, rhs: M31) -> M31 {
+        self.times(rhs)
     }
 }
 
-// From the products, and the inverse of the whole product, to the inverses; the multiplications made.
-fn inverses(column: &[u32], dst: &mut [u32], inverse: u32) -> u64
-    requires { BeforeInverses m31_units column.now dst.old inverse }
-    ensures { AfterInverses m31_units column.now dst.new result }
-{
-    let mut multiplications: u64 = 0;
-    let mut rest = inverse;
-    let mut k = column.len() / WIDTH - 1;
-    while 0 < k {
-        let a = load(column, k * WIDTH);
-        let before = load(dst, (k - 1) * WIDTH);
-        store(dst, k * WIDTH, mul(before, rest));
-        multiplications += 1;
-        rest = mul(rest, a);
-        multiplications += 1;
-        k -= 1;
+impl Column for M31 {
+    ghost column = { m31_column };
+
+    ghost laws = { m31_laws };
+
+    // One function for this and `all_below_p` of fields would take the number made of each word as a closure, and its contract would
+    // speak of the closure's answers: longer than the two loops.
+    // Just where a word is from 1 to P - 1, the word less 1 and the word plus 1, both modulo 2^32, are below 2^31.
+    fn all_invertible(words: &[u32]) -> bool {
+        let mut seen: u32 = 0;
+        for &word in words {
+            seen |= word.wrapping_sub(1) | word.wrapping_add(1);
+        }
+        seen < TWO_POW_31
     }
-    store(dst, 0, rest);
-    multiplications
-}
-
-// one element after the other
-fn classic(column: &[u32], dst: &mut [u32]) -> Counts
-    requires { Inverting m31_units column.now dst.old }
-    ensures { Inverted m31_units column.now dst.old dst.new
-        × (result ≡ plain_pass (size m31_units column.now)) }
-{
-    if column.len() == 0 {
-        return Counts {
-            multiplications: 0,
-            inversions: 0,
-        };
-    }
-    let mut inversions: u64 = 0;
-    let up = products(column, dst);
-    let rest = pow2147483645(up.whole);
-    inversions += 1;
-    let down = inverses(column, dst, rest);
-    let multiplications = up.multiplications + down;
-    Counts {
-        multiplications: multiplications,
-        inversions: inversions,
-    }
-}
-
-// Four elements side by side, which don't wait for one another.
-#[derive(Clone, Copy)]
-pub struct Lanes(pub u32, pub u32, pub u32, pub u32);
-
-fn lanes_load(column: &[u32], from: usize) -> Lanes
-    requires { from + 4 ≤ length column.now }
-    ensures { m31_lanes result ≡ (lane_units m31_units).layout.read column.now from }
-{
-    let upper = from + 2 * WIDTH;
-    Lanes(
-        load(column, from),
-        load(column, from + WIDTH),
-        load(column, upper),
-        load(column, upper + WIDTH),
-    )
-}
-
-fn lanes_store(dst: &mut [u32], to: usize, a: Lanes)
-    requires { to + 4 ≤ length dst.old }
-    ensures { dst.new ≡ (lane_units m31_units).layout.write dst.old to (m31_lanes a) }
-{
-    let upper = to + 2 * WIDTH;
-    store(dst, to, a.0);
-    store(dst, to + WIDTH, a.1);
-    store(dst, upper, a.2);
-    store(dst, upper + WIDTH, a.3);
-}
-
-fn lanes_mul(a: Lanes, b: Lanes) -> Lanes
-    requires { Factors (lane_units m31_units) (m31_lanes a) (m31_lanes b) }
-    ensures { m31_lanes result ≡ (lane_units m31_units).mul (m31_lanes a) (m31_lanes b) }
-{
-    Lanes(mul(a.0, b.0), mul(a.1, b.1), mul(a.2, b.2), mul(a.3, b.3))
-}
-
-// Four inverses, and what was made for them.
-#[derive(Clone, Copy)]
-pub struct LanesInverse {
-    pub lanes: Lanes,
-    pub multiplications: u64,
-    pub inversions: u64,
-}
-
-// The inverses of the four, by one inversion.
-fn lanes_inverse(a: Lanes) -> LanesInverse
-    requires { (lane_units m31_units).Unit (m31_lanes a) }
-    ensures { LanesInverted m31_units (m31_lanes a) (m31_lanes result.lanes) result.multiplications result.inversions }
-{
-    let mut multiplications: u64 = 0;
-    let mut inversions: u64 = 0;
-    let two = mul(a.0, a.1);
-    multiplications += 1;
-    let three = mul(two, a.2);
-    multiplications += 1;
-    let whole = mul(three, a.3);
-    multiplications += 1;
-    let rest = pow2147483645(whole);
-    inversions += 1;
-    let r3 = mul(three, rest);
-    multiplications += 1;
-    let rest = mul(rest, a.3);
-    multiplications += 1;
-    let r2 = mul(two, rest);
-    multiplications += 1;
-    let rest = mul(rest, a.2);
-    multiplications += 1;
-    let r1 = mul(a.0, rest);
-    multiplications += 1;
-    let r0 = mul(rest, a.1);
-    multiplications += 1;
-    LanesInverse {
-        lanes: Lanes(r0, r1, r2, r3),
-        multiplications: multiplications,
-        inversions: inversions,
-    }
-}
-
-// The product of each lane, and the multiplications made for them.
-#[derive(Clone, Copy)]
-pub struct LanesProduct {
-    pub whole: Lanes,
-    pub multiplications: u64,
-}
-
-fn lanes_products(column: &[u32], dst: &mut [u32]) -> LanesProduct
-    requires { BeforeProducts (lane_units m31_units) column.now dst.old }
-    ensures { AfterProducts (lane_units m31_units) 4 column.now dst.new (m31_lanes result.whole)
-        result.multiplications }
-{
-    let n = column.len() / LANES_WIDTH;
-    let ones = Lanes(1, 1, 1, 1);
-    let mut multiplications: u64 = 0;
-    let mut whole = lanes_mul(ones, lanes_load(column, 0));
-    multiplications += LANES;
-    lanes_store(dst, 0, whole);
-    let mut k: usize = 1;
-    while k < n {
-        let a = lanes_load(column, k * LANES_WIDTH);
-        whole = lanes_mul(whole, a);
-        multiplications += LANES;
-        lanes_store(dst, k * LANES_WIDTH, whole);
-        k += 1;
-    }
-    LanesProduct {
-        whole: whole,
-        multiplications: multiplications,
-    }
-}
-
-fn lanes_inverses(column: &[u32], dst: &mut [u32], inverse: Lanes) -> u64
-    requires { BeforeInverses (lane_units m31_units) column.now dst.old (m31_lanes inverse) }
-    ensures { AfterInverses (lane_units m31_units) column.now dst.new result }
-{
-    let mut multiplications: u64 = 0;
-    let mut rest = inverse;
-    let mut k = column.len() / LANES_WIDTH - 1;
-    while 0 < k {
-        let a = lanes_load(column, k * LANES_WIDTH);
-        let before = lanes_load(dst, (k - 1) * LANES_WIDTH);
-        lanes_store(dst, k * LANES_WIDTH, lanes_mul(before, rest));
-        multiplications += LANES;
-        rest = lanes_mul(rest, a);
-        multiplications += LANES;
-        k -= 1;
-    }
-    lanes_store(dst, 0, rest);
-    multiplications
-}
-
-// four at a time
-fn four_lanes(column: &[u32], dst: &mut [u32]) -> Counts
-    requires { BeforeProducts (lane_units m31_units) column.now dst.old }
-    ensures { Inverted (lane_units m31_units) column.now dst.old dst.new
-        × (result ≡ four_lane_pass (size (lane_units m31_units) column.now * 4)) }
-{
-    let up = lanes_products(column, dst);
-    let whole = up.whole;
-    let four = lanes_inverse(whole);
-    let rest = four.lanes;
-    let down = lanes_inverses(column, dst, rest);
-    let multiplications = up.multiplications + four.multiplications + down;
-    Counts {
-        multiplications: multiplications,
-        inversions: four.inversions,
-    }
-}
-
-// Each element of the destination becomes the inverse of the column's: four at a time where the count is above 4 and a
-// multiple of 4, else one by one.
-pub fn invert(column: &[u32], dst: &mut [u32]) -> Counts
-    requires { Inverting m31_units column.now dst.old }
-    ensures { Inverted m31_units column.now dst.old dst.new
-        × (result ≡ pass_counts (size m31_units column.now)) }
-{
-    let n = column.len() / WIDTH;
-    if n <= 4 {
-        return classic(column, dst);
-    }
-    if n % 4 != 0 {
-        return classic(column, dst);
-    }
-    four_lanes(column, dst)
 }

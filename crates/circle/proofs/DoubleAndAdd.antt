@@ -1,32 +1,56 @@
--- The loop of double-and-add, for any field: what holds whenever its test is reached.
-use Rattle.std.proofs.Common.{◌≡◌, ℕ, ◌/◌, ◌%◌, Bool, false, not, eqb, refl, ap, ◌∙◌}
-use Rattle.algebra.specs.Ring.{Ops}
+-- The loop of double-and-add, for points over any field: what holds whenever its test is reached.
+use Rattle.std.proofs.Common.{◌≡◌, ℕ, ◌/◌, ◌%◌, ap, ◌∙◌}
 use Rattle.algebra.specs.Circle.{plus, zero_point, multiple}
-use Rattle.fields.specs.Representation.{Representation}
-use Rattle.fields.specs.WideLaws.{none_left}
-use Rattle.circle.specs.Points.{PointReduced, add_step, add_end}
+use Rattle.fields.specs.Field.{FieldOf}
+use Rattle.fields.specs.FieldLaws.{Lawful}
+use Rattle.circle.specs.CirclePoint.{point_of, of_point, Reduced}
+use Rattle.circle.specs.Points.{add_step, add_bit_one, add_bit_zero, add_end}
+use Rattle.circle.specs.PointLaws.{zero_reduced, zero_words, words_reduced}
+use Rattle.circle.specs.declared.point.CirclePoint.{CirclePoint}
 
-module _ (W K : Ops) (H : Representation W K) where
+module _ {A : Type 0} (F : FieldOf A) (L : Lawful F) where
+  open F use {words as W}
+  open L use {K, representation as H}
+
   -- p added n times to zero: res plus what is left of n times cur is the multiple asked for
-  pub record MultipleLoop (p : W.El × W.El) (n : ℕ) (res cur : W.El × W.El) (left : ℕ) : Type 0 where
-    pub res_reduced : PointReduced W K H res
-    pub cur_reduced : PointReduced W K H cur
-    pub kept : plus W res (multiple W left cur) ≡ plus W (zero_point W) (multiple W n p)
+  pub record MultipleLoop (p : CirclePoint A) (n : ℕ) (res cur : CirclePoint A) (left : ℕ) : Type 0 where
+    pub res_reduced : Reduced F res
+    pub cur_reduced : Reduced F cur
+    pub kept : plus W (point_of F res) (multiple W left (point_of F cur)) ≡ plus W (zero_point W) (multiple W n (point_of F p))
 
-  pub multiple_start : (p : W.El × W.El) (n : ℕ) → PointReduced W K H p → MultipleLoop p n (zero_point W) p n
-  multiple_start p n h = record { res_reduced = (H.one_reduced, H.zero_reduced); cur_reduced = h; kept = refl }
-
-  pub multiple_next : (p : W.El × W.El) (n : ℕ) (res cur res' cur' : W.El × W.El) (left left' : ℕ) → MultipleLoop p n res cur left
-      → res' ≡ plus W res (multiple W (left % 2) cur) → PointReduced W K H res' → cur' ≡ plus W cur cur → PointReduced W K H cur'
-      → left' ≡ left / 2
-      → MultipleLoop p n res' cur' left'
-  multiple_next p n res cur res' cur' left left' l e r f b g = record {
-    res_reduced = r;
-    cur_reduced = b;
-    kept = ap (λ (m : ℕ). plus W res' (multiple W m cur')) g ∙ add_step W K H res cur res' cur' left e f ∙ l.kept;
+  pub multiple_start : (p zero : CirclePoint A) (n : ℕ) → Reduced F p → zero ≡ of_point F (zero_point W) → MultipleLoop p n zero p n
+  multiple_start p zero n h e = record {
+    res_reduced = rw e (zero_reduced L);
+    cur_reduced = h;
+    kept = ap (λ q. plus W q (multiple W n (point_of F p))) (ap (point_of F) e ∙ zero_words L);
   }
 
-  pub multiple_end : (p : W.El × W.El) (n : ℕ) (res cur : W.El × W.El) (left : ℕ) (zero : Bool) → MultipleLoop p n res cur left
-      → zero ≡ eqb left 0
-      → not zero ≡ false → res ≡ multiple W n p
-  multiple_end p n res cur left zero l e t = add_end W K H res cur p left n l.res_reduced (none_left left zero e t) l.kept
+  multiple_next : (p : CirclePoint A) (n : ℕ) (res cur res' cur' : CirclePoint A) (left : ℕ) → MultipleLoop p n res cur left
+      → Reduced F res' → point_of F res' ≡ plus W (point_of F res) (multiple W (left % 2) (point_of F cur)) → Reduced F cur'
+      → point_of F cur' ≡ plus W (point_of F cur) (point_of F cur)
+      → MultipleLoop p n res' cur' (left / 2)
+  multiple_next p n res cur res' cur' left l r e c f = record {
+    res_reduced = r;
+    cur_reduced = c;
+    kept = add_step W K H (point_of F res) (point_of F cur) (point_of F res') (point_of F cur') left e f ∙ l.kept;
+  }
+
+  pub multiple_odd : (p : CirclePoint A) (n : ℕ) (res cur res' cur' : CirclePoint A) (left : ℕ) → MultipleLoop p n res cur left
+      → left % 2 ≡ 1 → Reduced F res' → point_of F res' ≡ plus W (point_of F res) (point_of F cur) → Reduced F cur'
+      → point_of F cur' ≡ plus W (point_of F cur) (point_of F cur)
+      → MultipleLoop p n res' cur' (left / 2)
+  multiple_odd p n res cur res' cur' left l odd r e c f =
+      multiple_next p n res cur res' cur' left l r
+      (e ∙ add_bit_one W K H (point_of F res) (point_of F cur) (left % 2) (words_reduced L cur l.cur_reduced) odd) c f
+
+  pub multiple_even : (p : CirclePoint A) (n : ℕ) (res cur cur' : CirclePoint A) (left : ℕ) → MultipleLoop p n res cur left → left % 2 ≡ 0
+      → Reduced F cur' → point_of F cur' ≡ plus W (point_of F cur) (point_of F cur)
+      → MultipleLoop p n res cur' (left / 2)
+  multiple_even p n res cur cur' left l even c f =
+      multiple_next p n res cur res cur' left l l.res_reduced
+      (add_bit_zero W K H (point_of F res) (point_of F cur) (left % 2) (words_reduced L res l.res_reduced) even) c f
+
+  pub multiple_end : (p : CirclePoint A) (n : ℕ) (res cur : CirclePoint A) (left : ℕ) → MultipleLoop p n res cur left → left ≡ 0
+      → point_of F res ≡ multiple W n (point_of F p)
+  multiple_end p n res cur left l e =
+      add_end W K H (point_of F res) (point_of F cur) (point_of F p) left n (words_reduced L res l.res_reduced) e l.kept

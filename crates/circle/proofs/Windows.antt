@@ -4,6 +4,7 @@ use native.Mathlib.Nat as N
 use borrow.Rule.Slice.PartMut.{mid_of, post_of, put_mid, mid_len, same_len_mid}
 use Rattle.algebra.specs.Circle.{plus, zero_point, multiple}
 use Rattle.fields.specs.Words.{words31}
+use Rattle.fields.specs.declared.m31.M31.{M31}
 use Rattle.circle.specs.Point.{generator, point_of, of_point, Reduced}
 use Rattle.circle.specs.Table.{windows, digits_of, run, window_words, next_base, windows_from, table_words}
 use Rattle.circle.specs.Table.{table_length, FillingWindow, FilledWindow}
@@ -37,26 +38,26 @@ point_stored words digit m base p h =
         (ap (λ (k : ℕ). take k x_stored) to_suc ∙ take-suc-set words (2 * digit) p.0 (omega arith))
 
 -- a window of n digits, so many of them filled, and the point p of the next
-pub record WindowThrough (n : ℕ) (base : CirclePoint) (words : List ℕ) (digit : ℕ) (p : CirclePoint) : Type 0 where
+pub record WindowThrough (n : ℕ) (base : CirclePoint M31) (words : List ℕ) (digit : ℕ) (p : CirclePoint M31) : Type 0 where
   pub inside : digit ≤ n
   pub long : length words ≡ 2 * n
   pub reduced : Reduced p
   pub point : point_of p ≡ multiple words31 digit (point_of base)
   pub whole : take (2 * digit) words ++ run (n - digit) (point_of base) (point_of p) ≡ run n (point_of base) (zero_point words31)
 
-module _ {n : ℕ} {base : CirclePoint} where
-  pub window_start : {words : List ℕ} {p : CirclePoint} → FillingWindow n words base → p ≡ of_point (zero_point words31)
+module _ {n : ℕ} {base : CirclePoint M31} where
+  pub window_start : {words : List ℕ} {p : CirclePoint M31} → FillingWindow n words base → p ≡ of_point (zero_point words31)
       → WindowThrough n base words 0 p
   unfolding multiple
   window_start f e = record {
     inside = omega arith;
     long = f.long;
-    reduced = subst (λ (p : CirclePoint). Reduced p) (sym e) (lit< tt, lit< tt);
-    point = ap (λ (p : CirclePoint). point_of p) e;
-    whole = ap₂ (λ (m : ℕ) (p : CirclePoint). run m (point_of base) (point_of p)) (N.sub-zero n) e;
+    reduced = subst (λ (p : CirclePoint M31). Reduced p) (sym e) (lit< tt, lit< tt);
+    point = ap (λ (p : CirclePoint M31). point_of p) e;
+    whole = ap₂ (λ (m : ℕ) (p : CirclePoint M31). run m (point_of base) (point_of p)) (N.sub-zero n) e;
   }
 
-  pub window_next : {words : List ℕ} {digit : ℕ} {p q : CirclePoint} → WindowThrough n base words digit p → digit < n
+  pub window_next : {words : List ℕ} {digit : ℕ} {p q : CirclePoint M31} → WindowThrough n base words digit p → digit < n
       → point_of q ≡ plus words31 (point_of base) (point_of p) → Reduced q
       → WindowThrough n base (set (set words (2 * digit) p.x.0) (2 * digit + 1) p.y.0) (digit + 1) q
   unfolding multiple
@@ -80,7 +81,7 @@ module _ {n : ℕ} {base : CirclePoint} where
       left : suc (n - (digit + 1)) ≡ n - digit
       left = omega arith
 
-  pub window_end : {words : List ℕ} {digit : ℕ} {p : CirclePoint} → WindowThrough n base words digit p → n ≤ digit
+  pub window_end : {words : List ℕ} {digit : ℕ} {p : CirclePoint M31} → WindowThrough n base words digit p → n ≤ digit
       → FilledWindow n base words p
   unfolding run
   window_end {words} {digit} {p} t h = record {
@@ -97,7 +98,7 @@ module _ {n : ℕ} {base : CirclePoint} where
       all = N.le_antisymm t.inside h
 
 -- the table, so many windows of it filled, up to the word `start`, and the base of the next
-pub record TableThrough (table : List ℕ) (base : CirclePoint) (start window : ℕ) : Type 0 where
+pub record TableThrough (table : List ℕ) (base : CirclePoint M31) (start window : ℕ) : Type 0 where
   pub inside : window ≤ windows
   pub long : length table ≡ table_length
   pub begins : start ≤ table_length
@@ -119,18 +120,18 @@ next_window window base h =
     next : suc window ≡ window + 1
     next = omega arith
 
-pub table_start : {table : List ℕ} {base : CirclePoint} → length table ≡ table_length → base ≡ of_point generator
+pub table_start : {table : List ℕ} {base : CirclePoint M31} → length table ≡ table_length → base ≡ of_point generator
     → TableThrough table base 0 0
 unfolding table_words
 table_start l e = record {
   inside = omega arith;
   long = l;
   begins = omega arith;
-  reduced = subst (λ (p : CirclePoint). Reduced p) (sym e) (lit< tt, lit< tt);
-  whole = ap (λ (p : CirclePoint). windows_from windows 0 (point_of p)) e;
+  reduced = subst (λ (p : CirclePoint M31). Reduced p) (sym e) (lit< tt, lit< tt);
+  whole = ap (λ (p : CirclePoint M31). windows_from windows 0 (point_of p)) e;
 }
 
-module _ {table : List ℕ} {base : CirclePoint} {start window : ℕ} (t : TableThrough table base start window) where
+module _ {table : List ℕ} {base : CirclePoint M31} {start window : ℕ} (t : TableThrough table base start window) where
   taken : length (take start table) ≡ start
   taken = length-take-le start table (omega (arith, t.long, t.begins))
 
@@ -158,7 +159,7 @@ module _ {table : List ℕ} {base : CirclePoint} {start window : ℕ} (t : Table
       reduced = t.reduced;
     }
 
-    pub table_next : {part : List ℕ} {next : CirclePoint} → FilledWindow n base part next
+    pub table_next : {part : List ℕ} {next : CirclePoint M31} → FilledWindow n base part next
         → TableThrough (put_mid start (start + 2 * n - start) table part) next (start + 2 * n) (window + 1)
     table_next {part} {next} f = record {
       inside = omega arith;
@@ -201,3 +202,5 @@ module _ {table : List ℕ} {base : CirclePoint} {start window : ℕ} (t : Table
 
       front : take start table ≡ table_words
       front = sym (append-nil (take start table)) ∙ ap (λ (n : ℕ). take start table ++ windows_from n window (point_of base)) none ∙ t.whole
+
+pub ruleset tables = (table_start, table_room, table_next, table_end)

@@ -1,17 +1,15 @@
 -- What each call of point indices answers: the refusals of the table in docs/CALLS.md in its order, then numbers modulo 2^31.
-use Rattle.std.specs.Prelude.{ℕ, ◌+◌, ◌-◌, ◌*◌, ◌/◌, ◌%◌, ◌^◌, ◌<◌, Bool, ◌&&◌, ◌++◌, ◌==◌, nat_le, nat_lt}
+use Rattle.std.specs.Prelude.{ℕ, ◌+◌, ◌-◌, ◌*◌, ◌/◌, ◌%◌, ◌^◌, ◌<◌, Bool, ◌&&◌, ◌++◌, ◌==◌, nat_le, nat_lt, Result}
 use Rattle.algebra.specs.Circle.{multiple}
 use Rattle.fields.specs.Check.{Checks, need, checked}
 use Rattle.fields.specs.Search.{first}
 use Rattle.fields.specs.Words.{words31}
+use Rattle.fields.specs.declared.m31.M31.{M31}
+use Rattle.fields.specs.declared.refusal.Refusal.{Refusal}
 use Rattle.fields.specs.declared.refusal.Refusal.TheVariants.{LogSize, Index, Halving}
 use Rattle.circle.specs.Point.{point_of, of_point, words, on_circle, generator}
 use Rattle.circle.specs.declared.point.CirclePoint.{CirclePoint}
-use Rattle.circle.specs.declared.point.CirclePointAnswer.{CirclePointAnswer}
-use Rattle.circle.specs.declared.point.CirclePointAnswer.TheVariants as P
 use Rattle.circle.specs.declared.index.CirclePointIndex.{CirclePointIndex}
-use Rattle.circle.specs.declared.index.CirclePointIndexAnswer.{CirclePointIndexAnswer}
-use Rattle.circle.specs.declared.index.CirclePointIndexAnswer.TheVariants.{Value, Refused}
 
 -- the point index of a number
 abbrev pub of_index : ℕ → CirclePointIndex
@@ -49,32 +47,32 @@ subgroup_gen n = 2 ^ (31 - n) % 2 ^ 31
 abbrev pub neg_index : ℕ → ℕ
 neg_index k = (2 ^ 31 - k) % 2 ^ 31
 
-unfoldable pub reduce_answer : CirclePointIndex → CirclePointIndexAnswer
-reduce_answer k = checked (in_range k) Refused (Value (of_index (k.0 % 2 ^ 31)))
+abbrev pub reduce_answer : CirclePointIndex → Result CirclePointIndex Refusal
+reduce_answer k = checked (in_range k) (of_index (k.0 % 2 ^ 31))
 
 -- a log size of at most 31, else number 6
-unfoldable pub subgroup_gen_answer : ℕ → CirclePointIndexAnswer
-subgroup_gen_answer n = checked (need (nat_le n 31) LogSize) Refused (Value (of_index (subgroup_gen n)))
+abbrev pub subgroup_gen_answer : ℕ → Result CirclePointIndex Refusal
+subgroup_gen_answer n = checked (need (nat_le n 31) LogSize) (of_index (subgroup_gen n))
 
-unfoldable pub to_point_answer : CirclePointIndex → CirclePointAnswer
-to_point_answer k = checked (in_range k) P.Refused (P.Value (of_point (index_point k.0)))
+abbrev pub to_point_answer : CirclePointIndex → Result (CirclePoint M31) Refusal
+to_point_answer k = checked (in_range k) (of_point (index_point k.0))
 
-unfoldable pub from_point_answer : CirclePoint → CirclePointIndexAnswer
-from_point_answer p = checked (words p ++ on_circle p) Refused (Value (of_index (index_of (point_of p))))
+abbrev pub from_point_answer : CirclePoint M31 → Result CirclePointIndex Refusal
+from_point_answer p = checked (words p ++ on_circle p) (of_index (index_of (point_of p)))
 
 -- an even index, else number 5
-unfoldable pub half_answer : CirclePointIndex → CirclePointIndexAnswer
-half_answer k = checked (in_range k ++ need (k.0 % 2 == 0) Halving) Refused (Value (of_index (k.0 / 2)))
+abbrev pub half_answer : CirclePointIndex → Result CirclePointIndex Refusal
+half_answer k = checked (in_range k ++ need (k.0 % 2 == 0) Halving) (of_index (k.0 / 2))
 
-unfoldable pub add_answer : CirclePointIndex → CirclePointIndex → CirclePointIndexAnswer
-add_answer j k = checked (in_range j ++ in_range k) Refused (Value (of_index ((j.0 + k.0) % 2 ^ 31)))
+abbrev pub add_answer : CirclePointIndex → CirclePointIndex → Result CirclePointIndex Refusal
+add_answer j k = checked (in_range j ++ in_range k) (of_index ((j.0 + k.0) % 2 ^ 31))
 
-unfoldable pub sub_answer : CirclePointIndex → CirclePointIndex → CirclePointIndexAnswer
-sub_answer j k = checked (in_range j ++ in_range k) Refused (Value (of_index ((j.0 + 2 ^ 31 - k.0) % 2 ^ 31)))
+abbrev pub sub_answer : CirclePointIndex → CirclePointIndex → Result CirclePointIndex Refusal
+sub_answer j k = checked (in_range j ++ in_range k) (of_index ((j.0 + 2 ^ 31 - k.0) % 2 ^ 31))
 
-unfoldable pub neg_answer : CirclePointIndex → CirclePointIndexAnswer
-neg_answer k = checked (in_range k) Refused (Value (of_index (neg_index k.0)))
+abbrev pub neg_answer : CirclePointIndex → Result CirclePointIndex Refusal
+neg_answer k = checked (in_range k) (of_index (neg_index k.0))
 
 -- modulo 2^64, then modulo 2^31
-unfoldable pub mul_answer : CirclePointIndex → ℕ → CirclePointIndexAnswer
-mul_answer k n = checked (in_range k) Refused (Value (of_index ((k.0 * n) % 2 ^ 64 % 2 ^ 31)))
+abbrev pub mul_answer : CirclePointIndex → ℕ → Result CirclePointIndex Refusal
+mul_answer k n = checked (in_range k) (of_index ((k.0 * n) % 2 ^ 64 % 2 ^ 31))

@@ -2,12 +2,12 @@
 use Rattle.std.specs.Prelude.{◌≡◌, ℕ, zero, suc, ◌+◌, ◌*◌, ◌/◌, ◌%◌, [], ◌∷◌}
 use Rattle.std.proofs.Math.Path.{sym, ap}
 use Rattle.std.proofs.Common.{◌∙◌, ap₂}
-use Rattle.algebra.specs.Ring.{Ops, two}
+use Rattle.algebra.specs.Ring.{Ops, sub, two}
 use Rattle.algebra.specs.Polynomial.{◌:+◌, ◌:*◌, exprs, v0}
 use Rattle.algebra.specs.Power.{pow}
 use Rattle.algebra.specs.Tower.{complex}
 use Rattle.algebra.specs.Homomorphism.{Homomorphism, on_pair, to_pow, ext_homomorphism}
-use Rattle.algebra.specs.Circle.{plus, zero_point, multiple}
+use Rattle.algebra.specs.Circle.{plus, zero_point, multiple, double_x}
 use Rattle.algebra.specs.Circle as C
 use Rattle.algebra.specs.CircleHomomorphism as T
 use Rattle.algebra.specs.Doubling.{iterate, double}
@@ -22,6 +22,10 @@ module _ (W K : Ops) (H : Representation W K) where
 
   pub add_self_two : (a : W.El) → W.add a a ≡ W.mul (two W) a
   add_self_two a = solve_words W K H (a ∷ []) (v0 :+ v0) (two exprs :* v0) (add-reduced _ _) (mul-reduced _ _) tt
+
+  -- 2x² - 1 as s + s - 1, where s is the square of x
+  pub square_double_x : (x s t one r : W.El) → s ≡ W.mul x x → t ≡ W.add s s → one ≡ W.one → r ≡ sub W t one → r ≡ double_x W x
+  square_double_x x s t one r e f g h = h ∙ ap₂ (sub W) (f ∙ add_self_two s ∙ ap (W.mul (two W)) e) g
 
   -- reduced words of one point are equal
   pub point_injective : (p q : W.El × W.El) → PointReduced p → PointReduced q → on_pair element p ≡ on_pair element q → p ≡ q

@@ -1,89 +1,77 @@
 -- What each call of points over QM31 answers: the refusals of the table in docs/CALLS.md in its order, then its formulas.
-use Rattle.std.specs.Prelude.{ℕ, ◌-◌, ◌^◌, Bool, ◌&&◌, ◌++◌, ℤ, nat_lt}
-use Rattle.algebra.specs.Extension.{conjugate}
+use Rattle.std.specs.Prelude.{ℕ, ◌-◌, ◌^◌, ℤ, nat_lt, Result}
 use Rattle.algebra.specs.M31.{P}
-use Rattle.algebra.specs.Circle.{plus, multiple, double_x}
-use Rattle.algebra.specs.Doubling.{iterate, double}
+use Rattle.algebra.specs.Circle.{multiple}
 use Rattle.fields.specs.Check.{Checks, need, checked}
-use Rattle.fields.specs.Words.{complex_words, quartic_words}
-use Rattle.fields.specs.QM31.{pairs_of, of_pairs, of_base}
-use Rattle.fields.specs.QM31 as Q
+use Rattle.fields.specs.Words.{quartic_words}
+use Rattle.fields.specs.QM31.{qm31_field, of_base}
+use Rattle.fields.specs.declared.m31.M31.{M31}
 use Rattle.fields.specs.declared.qm31.QM31.{QM31}
-use Rattle.fields.specs.declared.qm31.QM31Answer.{QM31Answer}
-use Rattle.fields.specs.declared.qm31.QM31Answer.TheVariants as A
-use Rattle.fields.specs.declared.refusal.Refusal.TheVariants.{Scalar, Word}
-use Rattle.circle.specs.Formulas.{minus, antipode, signed_multiple}
+use Rattle.fields.specs.declared.refusal.Refusal.{Refusal}
+use Rattle.fields.specs.declared.refusal.Refusal.TheVariants.{Scalar}
+use Rattle.circle.specs.CirclePoint as C
 use Rattle.circle.specs.Point as M
 use Rattle.circle.specs.declared.point.CirclePoint.{CirclePoint}
-use Rattle.circle.specs.declared.secure_point.SecureCirclePoint.{SecureCirclePoint}
-use Rattle.circle.specs.declared.secure_point.SecureCirclePointAnswer.{SecureCirclePointAnswer}
-use Rattle.circle.specs.declared.secure_point.SecureCirclePointAnswer.TheVariants.{Value, Refused}
 
 -- the words of x, by pairs, and those of y
-abbrev pub point_of : SecureCirclePoint → quartic_words.El × quartic_words.El
-point_of p = (pairs_of p.x, pairs_of p.y)
+abbrev pub point_of : CirclePoint QM31 → quartic_words.El × quartic_words.El
+point_of = C.point_of qm31_field
 
 -- the point of the words of x and of y, by pairs
-abbrev pub of_point : quartic_words.El × quartic_words.El → SecureCirclePoint
-of_point p = record { x = of_pairs p.0; y = of_pairs p.1 }
+abbrev pub of_point : quartic_words.El × quartic_words.El → CirclePoint QM31
+of_point = C.of_point qm31_field
 
 -- all words are below P
-abbrev pub Reduced : SecureCirclePoint → Type 0
-Reduced p = Q.Reduced p.x × Q.Reduced p.y
-
--- whether all words are below P
-abbrev pub reduced : SecureCirclePoint → Bool
-reduced p = Q.reduced p.x && Q.reduced p.y
+abbrev pub Reduced : CirclePoint QM31 → Type 0
+Reduced = C.Reduced qm31_field
 
 -- the words are below P, else number 1
-abbrev pub words : SecureCirclePoint → Checks
-words p = need (reduced p) (Word 0)
+abbrev pub words : CirclePoint QM31 → Checks
+words = C.words qm31_field
 
 -- SECURE_FIELD_CIRCLE_GEN of circle.rs
 abbrev pub generator : quartic_words.El × quartic_words.El
 generator = (((1, 0), (478637715, 513582971)), ((992285211, 649143431), (740191619, 1186584352)))
 
-unfoldable pub add_answer : SecureCirclePoint → SecureCirclePoint → SecureCirclePointAnswer
-add_answer p q = checked (words p ++ words q) Refused (Value (of_point (plus quartic_words (point_of p) (point_of q))))
+abbrev pub add_answer : CirclePoint QM31 → CirclePoint QM31 → Result (CirclePoint QM31) Refusal
+add_answer = C.add_answer qm31_field
 
-unfoldable pub sub_answer : SecureCirclePoint → SecureCirclePoint → SecureCirclePointAnswer
-sub_answer p q = checked (words p ++ words q) Refused (Value (of_point (minus quartic_words (point_of p) (point_of q))))
+abbrev pub sub_answer : CirclePoint QM31 → CirclePoint QM31 → Result (CirclePoint QM31) Refusal
+sub_answer = C.sub_answer qm31_field
 
-unfoldable pub double_answer : SecureCirclePoint → SecureCirclePointAnswer
-double_answer p = checked (words p) Refused (Value (of_point (double quartic_words (point_of p))))
+abbrev pub double_answer : CirclePoint QM31 → Result (CirclePoint QM31) Refusal
+double_answer = C.double_answer qm31_field
 
 -- 2x² - 1
-unfoldable pub double_x_answer : QM31 → QM31Answer
-double_x_answer x = checked (Q.words x) A.Refused (A.Value (of_pairs (double_x quartic_words (pairs_of x))))
+abbrev pub double_x_answer : QM31 → Result QM31 Refusal
+double_x_answer = C.double_x_answer qm31_field
 
 -- p added k times to zero
-unfoldable pub mul_answer : SecureCirclePoint → ℕ → SecureCirclePointAnswer
-mul_answer p k = checked (words p) Refused (Value (of_point (multiple quartic_words k (point_of p))))
+abbrev pub mul_answer : CirclePoint QM31 → ℕ → Result (CirclePoint QM31) Refusal
+mul_answer = C.mul_answer qm31_field
 
-unfoldable pub mul_signed_answer : SecureCirclePoint → ℤ → SecureCirclePointAnswer
-mul_signed_answer p k = checked (M.scalar k ++ words p) Refused (Value (of_point (signed_multiple quartic_words k (point_of p))))
+abbrev pub mul_signed_answer : CirclePoint QM31 → ℤ → Result (CirclePoint QM31) Refusal
+mul_signed_answer = C.mul_signed_answer qm31_field
 
 -- n doublings
-unfoldable pub repeated_double_answer : SecureCirclePoint → ℕ → SecureCirclePointAnswer
-repeated_double_answer p n = checked (words p) Refused (Value (of_point (iterate n (double quartic_words) (point_of p))))
+abbrev pub repeated_double_answer : CirclePoint QM31 → ℕ → Result (CirclePoint QM31) Refusal
+repeated_double_answer = C.repeated_double_answer qm31_field
 
 -- (x, -y)
-unfoldable pub conjugate_answer : SecureCirclePoint → SecureCirclePointAnswer
-conjugate_answer p = checked (words p) Refused (Value (of_point (conjugate quartic_words (point_of p))))
+abbrev pub conjugate_answer : CirclePoint QM31 → Result (CirclePoint QM31) Refusal
+conjugate_answer = C.conjugate_answer qm31_field
 
-unfoldable pub antipode_answer : SecureCirclePoint → SecureCirclePointAnswer
-antipode_answer p = checked (words p) Refused (Value (of_point (antipode quartic_words (point_of p))))
+abbrev pub antipode_answer : CirclePoint QM31 → Result (CirclePoint QM31) Refusal
+antipode_answer = C.antipode_answer qm31_field
 
 -- the complex conjugates of x and y
-unfoldable pub complex_conjugate_answer : SecureCirclePoint → SecureCirclePointAnswer
-complex_conjugate_answer p =
-    checked (words p) Refused
-    (Value (of_point (conjugate complex_words (pairs_of p.x), conjugate complex_words (pairs_of p.y))))
+abbrev pub complex_conjugate_answer : CirclePoint QM31 → Result (CirclePoint QM31) Refusal
+complex_conjugate_answer = C.complex_conjugate_answer qm31_field
 
 -- below P^4 - 1, else number 11
-unfoldable pub get_point_answer : ℕ → SecureCirclePointAnswer
-get_point_answer k = checked (need (nat_lt k (P ^ 4 - 1)) Scalar) Refused (Value (of_point (multiple quartic_words k generator)))
+abbrev pub get_point_answer : ℕ → Result (CirclePoint QM31) Refusal
+get_point_answer k = checked (need (nat_lt k (P ^ 4 - 1)) Scalar) (of_point (multiple quartic_words k generator))
 
 -- a point over M31 as one over QM31
-unfoldable pub into_ef_answer : CirclePoint → SecureCirclePointAnswer
-into_ef_answer p = checked (M.words p) Refused (Value (of_point (of_base p.x.0, of_base p.y.0)))
+abbrev pub into_ef_answer : CirclePoint M31 → Result (CirclePoint QM31) Refusal
+into_ef_answer p = checked (M.words p) (of_point (of_base p.x.0, of_base p.y.0))

@@ -2,6 +2,7 @@
 use Rattle.std.specs.Prelude.{◌≡◌, ℕ, zero, suc, ◌+◌, ◌-◌, ◌*◌, ◌^◌, ◌<◌, cond, List, [], ◌∷◌, ◌++◌, length, nat_lt, slice_index}
 use Rattle.algebra.specs.Circle.{plus, zero_point, multiple}
 use Rattle.fields.specs.Words.{words31}
+use Rattle.fields.specs.declared.m31.M31.{M31}
 use Rattle.circle.specs.Point.{generator, point_of, Reduced}
 use Rattle.circle.specs.Index.{index_point}
 use Rattle.circle.specs.declared.point.CirclePoint.{CirclePoint}
@@ -74,11 +75,11 @@ abbrev pub table_length : ℕ
 table_length = 2 * (digits * (windows - 1) + last_digits)
 
 -- what filling the words of a window of n digits asks, and what it leaves
-pub record FillingWindow (n : ℕ) (words : List ℕ) (base : CirclePoint) : Type 0 where
+pub record FillingWindow (n : ℕ) (words : List ℕ) (base : CirclePoint M31) : Type 0 where
   pub long : length words ≡ 2 * n
   pub reduced : Reduced base
 
-pub record FilledWindow (n : ℕ) (base : CirclePoint) (words : List ℕ) (next : CirclePoint) : Type 0 where
+pub record FilledWindow (n : ℕ) (base : CirclePoint M31) (words : List ℕ) (next : CirclePoint M31) : Type 0 where
   pub filled : words ≡ run n (point_of base) (zero_point words31)
   pub next_base : point_of next ≡ multiple words31 n (point_of base)
   pub reduced : Reduced next

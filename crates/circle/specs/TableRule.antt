@@ -125,7 +125,7 @@ pub table_length_lem : length table_words ≡ table_length
 unfolding table_words
 table_length_lem = windows-length (windows - 1) 0 generator refl
 
--- The computed table, by the contract of `point_table::compute`, and the constant one, by that of `points`: both follow the rule by
+-- The computed table, by the contract of `point_table::compute`, and the constant one, by the type of `points`: both follow the rule by
 -- the same law, and they are one list.
 pub record BothTables (computed constant : List ℕ) : Type 0 where
   pub computed_rule : FollowsRule computed

@@ -1,37 +1,30 @@
-// Points over M31 (stwo's CirclePoint<M31>). Their coordinates needn't lie on the circle.
-ghost use Rattle.std.specs.Prelude.{◌≡◌, ◌+◌, ◌*◌, ◌^◌};
-ghost use Rattle.algebra.specs.Circle.{zero_point};
-ghost use Rattle.fields.specs.Words.{words31};
-ghost use Rattle.circle.specs.Point.{of_point, generator, add_answer, sub_answer, double_answer, double_x_answer};
-ghost use Rattle.circle.specs.Point.{mul_answer, mul_signed_answer, repeated_double_answer, conjugate_answer};
-ghost use Rattle.circle.specs.Point.{antipode_answer, complex_conjugate_answer, log_order_answer};
+// Points over M31 or QM31 (stwo's CirclePoint). Their coordinates needn't lie on the circle.
+ghost use Rattle.std.specs.Prelude.{◌≡◌};
+ghost use Rattle.fields.specs.Check.{outcome};
+ghost use Rattle.circle.specs.CirclePoint.{words, add_answer, sub_answer, double_answer, double_x_answer, mul_answer};
+ghost use Rattle.circle.specs.CirclePoint.{mul_signed_answer, repeated_double_answer, conjugate_answer, antipode_answer};
+ghost use Rattle.circle.specs.CirclePoint.{complex_conjugate_answer};
+ghost use Rattle.circle.specs.Point as M31Point;
 ghost use Rattle.circle.specs.SecurePoint.{into_ef_answer};
 
-use crate::scalar;
-use crate::secure_point::{SecureCirclePoint, SecureCirclePointAnswer};
-use fields::answer::U32Answer;
-use fields::cm31::CM31;
-use fields::m31::{M31, M31Answer, P};
+use crate::secure_point::SecureCirclePoint;
+use fields::check::need;
+use fields::extension::Extension;
+use fields::field::Field;
+use fields::m31::M31;
 use fields::qm31::QM31;
 use fields::refusal::Refusal;
-use fields::wide::U128;
 
 pub mod inner;
 
-#[derive(Clone, Copy)]
-pub struct CirclePoint {
-    pub x: M31,
-    pub y: M31,
+#[derive(Clone, Copy, Debug, PartialEq, Eq)]
+pub struct CirclePoint<F> {
+    pub x: F,
+    pub y: F,
 }
 
-#[derive(Clone, Copy)]
-pub enum CirclePointAnswer {
-    Value(CirclePoint),
-    Refused(Refusal),
-}
-
-// G, a generator of the circle group; `CirclePoint::generator` is its promise
-pub const M31_CIRCLE_GEN: CirclePoint = CirclePoint {
+// G, a generator of the circle group over M31; `CirclePoint::generator` is its promise
+pub const M31_CIRCLE_GEN: CirclePoint<M31> = CirclePoint {
     x: M31(2),
     y: M31(1268011823),
 };
@@ -39,155 +32,121 @@ pub const M31_CIRCLE_GEN: CirclePoint = CirclePoint {
 // The order of G is 2^31.
 pub const M31_CIRCLE_LOG_ORDER: u32 = 31;
 
-impl CirclePoint {
-    pub fn zero() -> CirclePoint
-        ensures { result ≡ of_point (zero_point words31) }
+impl<F: Field> CirclePoint<F> {
+    pub fn check(self) -> Result<(), Refusal>
+        ensures { result ≡ outcome (words F.field self) }
     {
-        CirclePoint {
-            x: M31(1),
-            y: M31(0),
-        }
+        need(self.is_reduced(), Refusal::Word(0))
     }
 
-    // A constant has no contract; this has.
-    pub fn generator() -> CirclePoint
-        ensures { result ≡ of_point generator }
+    pub fn double(self) -> Result<CirclePoint<F>, Refusal>
+        ensures { result ≡ double_answer F.field self }
     {
-        M31_CIRCLE_GEN
-    }
-
-    pub fn double(self) -> CirclePointAnswer
-        ensures { result ≡ double_answer self }
-    {
-        if !inner::is_reduced(self) {
-            return CirclePointAnswer::Refused(Refusal::Word(0));
-        }
-        CirclePointAnswer::Value(inner::add(self, self))
+        self.check()?;
+        Ok(self.plus(self))
     }
 
     // The x of the doubled point, from x alone.
-    pub fn double_x(x: M31) -> M31Answer
-        ensures { result ≡ double_x_answer x }
+    pub fn double_x(x: F) -> Result<F, Refusal>
+        ensures { result ≡ double_x_answer F.field x }
     {
-        if P <= x.0 {
-            return M31Answer::Refused(Refusal::Word(0));
-        }
-        M31Answer::Value(M31(inner::double_x(x.0)))
+        x.check()?;
+        Ok(inner::doubled_x(x))
     }
 
-    // The least count of doublings that reach zero.
-    pub fn log_order(self) -> U32Answer
-        ensures { result ≡ log_order_answer self }
+    pub fn mul(self, scalar: u128) -> Result<CirclePoint<F>, Refusal>
+        ensures { result ≡ mul_answer F.field self scalar }
     {
-        if !inner::is_reduced(self) {
-            return U32Answer::Refused(Refusal::Word(0));
-        }
-        if !inner::is_on_circle(self) {
-            return U32Answer::Refused(Refusal::Circle);
-        }
-        U32Answer::Value(inner::log_order(self))
+        self.check()?;
+        Ok(self.times(scalar))
     }
 
-    // The scalar is high 2^64 + low.
-    pub fn mul(self, high: u64, low: u64) -> CirclePointAnswer
-        ensures { result ≡ mul_answer self (high * 2 ^ 64 + low) }
+    pub fn repeated_double(self, n: u32) -> Result<CirclePoint<F>, Refusal>
+        ensures { result ≡ repeated_double_answer F.field self n }
     {
-        if !inner::is_reduced(self) {
-            return CirclePointAnswer::Refused(Refusal::Word(0));
-        }
-        CirclePointAnswer::Value(inner::mul(self, U128 { high, low }))
+        self.check()?;
+        Ok(self.doubled(n))
     }
 
-    pub fn repeated_double(self, n: u32) -> CirclePointAnswer
-        ensures { result ≡ repeated_double_answer self n }
+    pub fn conjugate(self) -> Result<CirclePoint<F>, Refusal>
+        ensures { result ≡ conjugate_answer F.field self }
     {
-        if !inner::is_reduced(self) {
-            return CirclePointAnswer::Refused(Refusal::Word(0));
-        }
-        CirclePointAnswer::Value(inner::repeated_double(self, n))
+        self.check()?;
+        Ok(self.conjugated())
     }
 
-    pub fn conjugate(self) -> CirclePointAnswer
-        ensures { result ≡ conjugate_answer self }
+    pub fn antipode(self) -> Result<CirclePoint<F>, Refusal>
+        ensures { result ≡ antipode_answer F.field self }
     {
-        if !inner::is_reduced(self) {
-            return CirclePointAnswer::Refused(Refusal::Word(0));
-        }
-        CirclePointAnswer::Value(inner::conjugate(self))
+        self.check()?;
+        Ok(self.opposite())
     }
 
-    pub fn antipode(self) -> CirclePointAnswer
-        ensures { result ≡ antipode_answer self }
+    pub fn mul_signed(self, off: i64) -> Result<CirclePoint<F>, Refusal>
+        ensures { result ≡ mul_signed_answer F.field self off }
     {
-        if !inner::is_reduced(self) {
-            return CirclePointAnswer::Refused(Refusal::Word(0));
-        }
-        CirclePointAnswer::Value(inner::antipode(self))
+        need(off != i64::MIN, Refusal::Scalar)?;
+        self.check()?;
+        Ok(self.times_signed(off))
     }
 
-    pub fn into_ef(self) -> SecureCirclePointAnswer
-        ensures { result ≡ into_ef_answer self }
+    pub fn add(self, rhs: CirclePoint<F>) -> Result<CirclePoint<F>, Refusal>
+        ensures { result ≡ add_answer F.field self rhs }
     {
-        if !inner::is_reduced(self) {
-            return SecureCirclePointAnswer::Refused(Refusal::Word(0));
-        }
-        let x = self.x;
-        let y = self.y;
-        let zero = CM31(M31(0), M31(0));
-        SecureCirclePointAnswer::Value(SecureCirclePoint {
-            x: QM31(CM31(x, M31(0)), zero),
-            y: QM31(CM31(y, M31(0)), zero),
-        })
+        self.check()?;
+        rhs.check()?;
+        Ok(self.plus(rhs))
     }
 
-    pub fn mul_signed(self, off: i64) -> CirclePointAnswer
-        ensures { result ≡ mul_signed_answer self off }
-    {
-        if scalar::is_least(off) {
-            return CirclePointAnswer::Refused(Refusal::Scalar);
-        }
-        if !inner::is_reduced(self) {
-            return CirclePointAnswer::Refused(Refusal::Word(0));
-        }
-        CirclePointAnswer::Value(inner::mul_signed(self, off))
-    }
-
-    pub fn add(self, rhs: CirclePoint) -> CirclePointAnswer
-        ensures { result ≡ add_answer self rhs }
-    {
-        if !inner::is_reduced(self) {
-            return CirclePointAnswer::Refused(Refusal::Word(0));
-        }
-        if !inner::is_reduced(rhs) {
-            return CirclePointAnswer::Refused(Refusal::Word(0));
-        }
-        CirclePointAnswer::Value(inner::add(self, rhs))
-    }
-
-    pub fn neg(self) -> CirclePointAnswer
-        ensures { result ≡ conjugate_answer self }
+    pub fn neg(self) -> Result<CirclePoint<F>, Refusal>
+        ensures { result ≡ conjugate_answer F.field self }
     {
         self.conjugate()
     }
 
-    pub fn sub(self, rhs: CirclePoint) -> CirclePointAnswer
-        ensures { result ≡ sub_answer self rhs }
+    pub fn sub(self, rhs: CirclePoint<F>) -> Result<CirclePoint<F>, Refusal>
+        ensures { result ≡ sub_answer F.field self rhs }
     {
-        if !inner::is_reduced(self) {
-            return CirclePointAnswer::Refused(Refusal::Word(0));
-        }
-        if !inner::is_reduced(rhs) {
-            return CirclePointAnswer::Refused(Refusal::Word(0));
-        }
-        CirclePointAnswer::Value(inner::add(self, inner::conjugate(rhs)))
+        self.check()?;
+        rhs.check()?;
+        Ok(self.plus(rhs.conjugated()))
     }
 
-    pub fn complex_conjugate(self) -> CirclePointAnswer
-        ensures { result ≡ complex_conjugate_answer self }
+    pub fn complex_conjugate(self) -> Result<CirclePoint<F>, Refusal>
+        ensures { result ≡ complex_conjugate_answer F.field self }
     {
-        if !inner::is_reduced(self) {
-            return CirclePointAnswer::Refused(Refusal::Word(0));
-        }
-        CirclePointAnswer::Value(self)
+        self.check()?;
+        Ok(CirclePoint {
+            x: self.x.conjugated(),
+            y: self.y.conjugated(),
+        })
+    }
+}
+
+impl CirclePoint<M31> {
+    // A constant has no contract; this has.
+    pub fn generator() -> CirclePoint<M31>
+        ensures { result ≡ M31Point.of_point M31Point.generator }
+    {
+        M31_CIRCLE_GEN
+    }
+
+    // The least count of doublings that reach zero.
+    pub fn log_order(self) -> Result<u32, Refusal>
+        ensures { result ≡ M31Point.log_order_answer self }
+    {
+        self.check()?;
+        need(self.is_on_circle(), Refusal::Circle)?;
+        Ok(self.doublings_to_zero())
+    }
+
+    pub fn into_ef(self) -> Result<SecureCirclePoint, Refusal>
+        ensures { result ≡ into_ef_answer self }
+    {
+        self.check()?;
+        Ok(CirclePoint {
+            x: QM31::embedded(self.x),
+            y: QM31::embedded(self.y),
+        })
     }
 }

@@ -3,7 +3,8 @@
 ghost use Rattle.std.specs.Prelude.{◌≡◌, length};
 ghost use Rattle.circle.specs.Table.{digits_of, table_words, table_length, FillingWindow, FilledWindow};
 
-use crate::point::{CirclePoint, inner as point};
+use crate::point::CirclePoint;
+use fields::m31::M31;
 
 pub mod constant;
 pub mod inner;
@@ -35,36 +36,35 @@ pub fn digits_of(window: usize) -> usize
 }
 
 // Fills the words of a window with the points of its digits: zero, base, twice base and so on. The point after the last,
-// which is returned, is the base of the next window.
-fn fill_window(words: &mut [u32], digits: usize, base: CirclePoint) -> CirclePoint
+// which is returned, is the base of the next window. By index: after a loop over `chunks_exact_mut` the proof doesn't close,
+// since nothing is known of the words that it wrote.
+fn fill_window(words: &mut [u32], digits: usize, base: CirclePoint<M31>) -> CirclePoint<M31>
     requires { FillingWindow digits words.old base }
     ensures { FilledWindow digits base words.new result }
 {
-    let mut p = CirclePoint::zero();
-    let mut digit: usize = 0;
-    while digit < digits {
+    let mut p = CirclePoint::<M31>::zero();
+    for digit in 0..digits {
         words[2 * digit] = p.x.0;
         words[2 * digit + 1] = p.y.0;
-        p = point::add(base, p);
-        digit += 1;
+        p = base.plus(p);
     }
     p
 }
 
-// Fills the windows one after another, the first over G.
+// Fills the windows one after another, the first over G. With `split_at_mut` on what is left of the table in place of `start`
+// the proof doesn't close either: after the loop nothing is known of the words that were split off.
+#[tactic(auto, using(crate::proofs::Windows::tables))]
 fn fill_windows(table: &mut [u32])
     requires { length table.old ≡ table_length }
     ensures { table.new ≡ table_words }
 {
     let mut base = CirclePoint::generator();
     let mut start: usize = 0;
-    let mut window: usize = 0;
-    while window < WINDOWS {
+    for window in 0..WINDOWS {
         let digits = digits_of(window);
         let end = start + 2 * digits;
         base = fill_window(&mut table[start..end], digits, base);
         start = end;
-        window += 1;
     }
 }
 

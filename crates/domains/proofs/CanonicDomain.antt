@@ -1,6 +1,6 @@
 -- The canonic circle domain of log size n as the calls give it: the indices that it lists, in which order, and their points.
 use Prim.Native.Nat.{ℕ, suc, ◌+◌, ◌-◌, ◌*◌, ◌%◌, ◌^◌, ◌≤◌, ◌<◌}
-use Rattle.std.specs.Prelude.{◌≡◌, refl, true}
+use Rattle.std.specs.Prelude.{Some, None, Ok, ◌≡◌, refl, true}
 use Rattle.std.proofs.Common.{sym, ◌∙◌, eq-eqb}
 use Rattle.std.proofs.Math.Path.{ap, ap₂, subst}
 use Rattle.std.proofs.Math.Nat as N
@@ -9,16 +9,8 @@ use native.Mathlib.Omega.{arith}
 use Rattle.std.proofs.Math.Pow as W
 use Rattle.fields.specs.CheckLaws.{Hold, hold_passes}
 use Rattle.fields.specs.LogSizeLaws.{log_size_passes}
-use Rattle.fields.specs.declared.answer.U64Answer.TheVariants as L
-use Rattle.fields.specs.declared.answer.BoolAnswer.TheVariants as B
 use Rattle.circle.specs.Point.{of_point}
 use Rattle.circle.specs.Index.{of_index, index_point, neg_index, subgroup_gen}
-use Rattle.circle.specs.declared.point.CirclePointAnswer.TheVariants as P
-use Rattle.circle.specs.declared.index.CirclePointIndexAnswer.TheVariants as I
-use Rattle.domains.specs.declared.canonic.CanonicCosetAnswer.TheVariants as CA
-use Rattle.domains.specs.declared.domain.CircleDomainAnswer.TheVariants as DA
-use Rattle.domains.specs.declared.iterator.CircleDomainIndexIteratorAnswer.TheVariants as T
-use Rattle.domains.specs.declared.iterator.CircleDomainStep.TheVariants.{Next, Done}
 use Rattle.domains.specs.Record.{check, check_canonic, Fits}
 use Rattle.domains.specs.Listing.{unit, coset_index, domain_index}
 use Rattle.domains.specs.Coset.{coset_of, index_at}
@@ -101,13 +93,13 @@ module _ (n : ℕ) (lo : 1 ≤ n) (hi : n ≤ 30) where
 
   all_steps : (i : ℕ) → i < 2 ^ n
       → domain_next_answer (domain_steps i (domain_iterator_of (half_of n)))
-      ≡ Next (of_index (domain_index n i)) (domain_steps (suc i) (domain_iterator_of (half_of n)))
+      ≡ Ok (Some (of_index (domain_index n i)), domain_steps (suc i) (domain_iterator_of (half_of n)))
   unfolding half_of coset_of
   all_steps i h = elim (dec_lt i (2 ^ (n - 1))) [
     | yes l ↦ half_walk.first_half i l
-        ∙ ap (λ (t : ℕ). Next (of_index t) (domain_steps (suc i) (domain_iterator_of (half_of n)))) (first_index i l)
+        ∙ ap (λ (t : ℕ). Ok (Some (of_index t), domain_steps (suc i) (domain_iterator_of (half_of n)))) (first_index i l)
     | no g ↦ subst (λ (t : ℕ). domain_next_answer (domain_steps t (domain_iterator_of (half_of n)))
-        ≡ Next (of_index (domain_index n t)) (domain_steps (suc t) (domain_iterator_of (half_of n)))) (half_plus_rest g)
+        ≡ Ok (Some (of_index (domain_index n t)), domain_steps (suc t) (domain_iterator_of (half_of n)))) (half_plus_rest g)
         (later (i - 2 ^ (n - 1)) (omega (arith, two_halves n lo hi)))
   ]
     where
@@ -115,30 +107,30 @@ module _ (n : ℕ) (lo : 1 ≤ n) (hi : n ≤ 30) where
       half_plus_rest g = omega arith
 
       later : (j : ℕ) → j < 2 ^ (n - 1) → domain_next_answer (domain_steps (2 ^ (n - 1) + j) (domain_iterator_of (half_of n)))
-          ≡ Next (of_index (domain_index n (2 ^ (n - 1) + j))) (domain_steps (suc (2 ^ (n - 1) + j)) (domain_iterator_of (half_of n)))
+          ≡ Ok (Some (of_index (domain_index n (2 ^ (n - 1) + j))), domain_steps (suc (2 ^ (n - 1) + j)) (domain_iterator_of (half_of n)))
       later j l = half_walk.second_half j l
-          ∙ ap (λ (t : ℕ). Next (of_index t) (domain_steps (suc (2 ^ (n - 1) + j)) (domain_iterator_of (half_of n))))
+          ∙ ap (λ (t : ℕ). Ok (Some (of_index t), domain_steps (suc (2 ^ (n - 1) + j)) (domain_iterator_of (half_of n))))
           (conjugate_index (half_of n) j half_fits ∙ second_index j l)
 
   all_done : (i : ℕ) → 2 ^ n ≤ i
-      → domain_next_answer (domain_steps i (domain_iterator_of (half_of n))) ≡ Done (domain_steps (suc i) (domain_iterator_of (half_of n)))
+      → domain_next_answer (domain_steps i (domain_iterator_of (half_of n)))
+      ≡ Ok (None, domain_steps (suc i) (domain_iterator_of (half_of n)))
   unfolding half_of coset_of
   all_done i h = half_walk.done i (omega (arith, two_halves n lo hi))
 
   -- ---- the calls
 
-  coset_made : try_new_answer n ≡ CA.Value (canonic_of n)
-  unfolding try_new_answer
+  coset_made : try_new_answer n ≡ Ok (canonic_of n)
   coset_made = rw (log_size_passes n lo hi)
 
-  domain_made : circle_domain_answer (canonic_of n) ≡ DA.Value (of_half (half_of n))
-  unfolding circle_domain_answer canonic_of coset_of
-  domain_made = hold_passes (check_canonic (canonic_of n)) DA.Refused (DA.Value (of_half (half_of n))) canonic_passes
+  domain_made : circle_domain_answer (canonic_of n) ≡ Ok (of_half (half_of n))
+  unfolding canonic_of coset_of
+  domain_made = hold_passes (check_canonic (canonic_of n)) (of_half (half_of n)) canonic_passes
 
-  coset_index_lem : (k : ℕ) → C.index_at_answer (canonic_of n) k ≡ I.Value (of_index (coset_index n k))
-  unfolding C.index_at_answer canonic_of
-  coset_index_lem k = hold_passes (check_canonic (canonic_of n)) I.Refused _ canonic_passes
-      ∙ ap (λ (t : ℕ). I.Value (of_index t))
+  coset_index_lem : (k : ℕ) → C.index_at_answer (canonic_of n) k ≡ Ok (of_index (coset_index n k))
+  unfolding canonic_of
+  coset_index_lem k = hold_passes (check_canonic (canonic_of n)) _ canonic_passes
+      ∙ ap (λ (t : ℕ). Ok (of_index t))
       (made_index (subgroup_gen (n + 1)) n k ∙ ap (λ (t : ℕ). t % 2 ^ 31) initial_plus_steps)
     where
       initial_plus_steps : subgroup_gen (n + 1) + 2 ^ (31 - n) * k ≡ unit n * (2 * k + 1)
@@ -148,30 +140,27 @@ module _ (n : ℕ) (lo : 1 ≤ n) (hi : n ≤ 30) where
           ap₂ (λ (s t : ℕ). s + 2 ^ t * k) (subgroup_gen_power (n + 1) (omega arith) ∙ ap (λ (t : ℕ). 2 ^ t) initial) step
           ∙ omega (arith, ap (λ (t : ℕ). t * k) (N.pow-succ' 2 (30 - n)))
 
-  domain_size : size_answer (of_half (half_of n)) ≡ L.Value (2 ^ n)
-  unfolding size_answer half_of coset_of
+  domain_size : size_answer (of_half (half_of n)) ≡ Ok (2 ^ n)
+  unfolding half_of coset_of
   domain_size =
       let size : n - 1 + 1 ≡ n = omega arith in
-      hold_passes (check (half_of n)) L.Refused _ half_passes ∙ ap (λ (t : ℕ). L.Value (2 ^ t)) size
+      hold_passes (check (half_of n)) _ half_passes ∙ ap (λ (t : ℕ). Ok (2 ^ t)) size
 
-  index_answer : (i : ℕ) → i < 2 ^ n → index_at_answer (of_half (half_of n)) i ≡ I.Value (of_index (domain_index n i))
-  unfolding index_at_answer
-  index_answer i h = hold_passes (check (half_of n)) I.Refused _ half_passes ∙ ap (λ (t : ℕ). I.Value (of_index t)) (index_at_domain i h)
+  index_answer : (i : ℕ) → i < 2 ^ n → index_at_answer (of_half (half_of n)) i ≡ Ok (of_index (domain_index n i))
+  index_answer i h = hold_passes (check (half_of n)) _ half_passes ∙ ap (λ (t : ℕ). Ok (of_index t)) (index_at_domain i h)
 
-  point_answer : (i : ℕ) → i < 2 ^ n → at_answer (of_half (half_of n)) i ≡ P.Value (of_point (index_point (domain_index n i)))
-  unfolding at_answer
-  point_answer i h = hold_passes (check (half_of n)) P.Refused _ half_passes
-      ∙ ap (λ (t : ℕ). P.Value (of_point (index_point t))) (index_at_domain i h)
+  point_answer : (i : ℕ) → i < 2 ^ n → at_answer (of_half (half_of n)) i ≡ Ok (of_point (index_point (domain_index n i)))
+  point_answer i h = hold_passes (check (half_of n)) _ half_passes
+      ∙ ap (λ (t : ℕ). Ok (of_point (index_point t))) (index_at_domain i h)
 
-  canonic_answer : is_canonic_answer (of_half (half_of n)) ≡ B.Value true
-  unfolding is_canonic_answer half_of coset_of
+  canonic_answer : is_canonic_answer (of_half (half_of n)) ≡ Ok true
+  unfolding half_of coset_of
   canonic_answer =
-      hold_passes (check (half_of n)) B.Refused _ half_passes
-      ∙ ap B.Value (ap (λ (t : ℕ). D.is_canonic t (subgroup_gen (n - 1))) initial_unit ∙ canonic_indices)
+      hold_passes (check (half_of n)) _ half_passes
+      ∙ ap Ok (ap (λ (t : ℕ). D.is_canonic t (subgroup_gen (n - 1))) initial_unit ∙ canonic_indices)
 
-  iterator_answer : iter_indices_answer (of_half (half_of n)) ≡ T.Value (domain_iterator_of (half_of n))
-  unfolding iter_indices_answer
-  iterator_answer = hold_passes (check (half_of n)) T.Refused _ half_passes
+  iterator_answer : iter_indices_answer (of_half (half_of n)) ≡ Ok (domain_iterator_of (half_of n))
+  iterator_answer = hold_passes (check (half_of n)) _ half_passes
 
 pub canonic_domain : (n : ℕ) → 1 ≤ n → n ≤ 30 → CanonicDomain n
 canonic_domain n lo hi = record {

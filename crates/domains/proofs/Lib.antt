@@ -1,8 +1,9 @@
-pub mod Records
-pub mod Shifts
-pub mod Steps
-pub mod Turns
+-- theorems
 pub mod PointSet
 pub mod BitReversed
 pub mod CanonicDomain
 pub mod Doubled
+-- lemmas of the functions' proofs
+pub mod Checks
+pub mod Cosets
+pub mod Shifts

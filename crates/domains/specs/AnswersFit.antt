@@ -1,5 +1,6 @@
 -- What a call answers with, the calls accept: every index is below 2^31, and every coset, canonic coset and domain passes the checks of
 -- its record, the last of which is that each point is that of its index.
+use Rattle.std.specs.Prelude.{Option, Some, None, Result, Ok, Err}
 use Rattle.std.specs.Prelude.{ℕ, ◌+◌, ◌-◌, ◌*◌, ◌/◌, ◌%◌, ◌^◌, ◌<◌, Bool, true, false, cond, ◌++◌, leb, ltb, eqb}
 use Rattle.std.proofs.Common.{arith, lit<, leb-true}
 use Rattle.fields.specs.Check.{Checks, need, checked}
@@ -7,31 +8,16 @@ use Rattle.fields.specs.CheckLaws.{Hold, hold_split, checked_has}
 use Rattle.algebra.specs.Doubling.{iterate}
 use Rattle.fields.specs.LogSize.{is_log_size}
 use Rattle.fields.specs.LogSizeLaws.{log_size_fits_lem}
+use Rattle.fields.specs.declared.refusal.Refusal.{Refusal}
 use Rattle.fields.specs.declared.refusal.Refusal.TheVariants.{LogSize, Length, Halving, Doublings}
 use Rattle.circle.specs.Index.{of_index, IsIndex, in_range, subgroup_gen, neg_index}
 use Rattle.circle.specs.Index as Index
 use Rattle.circle.specs.declared.index.CirclePointIndex.{CirclePointIndex}
-use Rattle.circle.specs.declared.index.CirclePointIndexAnswer.{CirclePointIndexAnswer}
-use Rattle.circle.specs.declared.index.CirclePointIndexAnswer.TheVariants as I
 use Rattle.domains.specs.declared.coset.Coset.{Coset}
-use Rattle.domains.specs.declared.coset.CosetAnswer.{CosetAnswer}
-use Rattle.domains.specs.declared.coset.CosetAnswer.TheVariants as C
 use Rattle.domains.specs.declared.canonic.CanonicCoset.{CanonicCoset}
-use Rattle.domains.specs.declared.canonic.CanonicCosetAnswer.{CanonicCosetAnswer}
-use Rattle.domains.specs.declared.canonic.CanonicCosetAnswer.TheVariants as K
 use Rattle.domains.specs.declared.domain.CircleDomain.{CircleDomain}
-use Rattle.domains.specs.declared.domain.CircleDomainAnswer.{CircleDomainAnswer}
-use Rattle.domains.specs.declared.domain.CircleDomainAnswer.TheVariants as D
 use Rattle.domains.specs.declared.iterator.CosetIterator.{CosetIterator}
-use Rattle.domains.specs.declared.iterator.CosetIteratorAnswer.{CosetIteratorAnswer}
-use Rattle.domains.specs.declared.iterator.CosetIteratorAnswer.TheVariants as T
-use Rattle.domains.specs.declared.iterator.CosetStep.{CosetStep}
-use Rattle.domains.specs.declared.iterator.CosetStep.TheVariants as S
 use Rattle.domains.specs.declared.iterator.CircleDomainIndexIterator.{CircleDomainIndexIterator}
-use Rattle.domains.specs.declared.iterator.CircleDomainIndexIteratorAnswer.{CircleDomainIndexIteratorAnswer}
-use Rattle.domains.specs.declared.iterator.CircleDomainIndexIteratorAnswer.TheVariants as DT
-use Rattle.domains.specs.declared.iterator.CircleDomainStep.{CircleDomainStep}
-use Rattle.domains.specs.declared.iterator.CircleDomainStep.TheVariants as DS
 use Rattle.domains.specs.Record.{check, check_canonic, check_with_index, Fits}
 use Rattle.domains.specs.Coset.{coset_of, index_at, doubled, shifted, conjugated, iterator_of}
 use Rattle.domains.specs.Coset as Coset
@@ -47,26 +33,26 @@ use Rattle.domains.specs.CosetLaws.{conjugate_fits, index_at_index, neg_index_le
 
 -- the value of an answer, where it has one, passes the checks of the calls that take it
 
-unfoldable pub IndexFits : CirclePointIndexAnswer → Type 0
-IndexFits (I.Value k) = IsIndex k
-IndexFits (I.Refused why) = Unit
+unfoldable pub IndexFits : Result CirclePointIndex Refusal → Type 0
+IndexFits (Ok k) = IsIndex k
+IndexFits (Err why) = Unit
 
-unfoldable pub CosetFits : CosetAnswer → Type 0
-CosetFits (C.Value c) = Hold (check c)
-CosetFits (C.Refused why) = Unit
+unfoldable pub CosetFits : Result Coset Refusal → Type 0
+CosetFits (Ok c) = Hold (check c)
+CosetFits (Err why) = Unit
 
-unfoldable pub CanonicFits : CanonicCosetAnswer → Type 0
-CanonicFits (K.Value c) = Hold (check_canonic c)
-CanonicFits (K.Refused why) = Unit
+unfoldable pub CanonicFits : Result CanonicCoset Refusal → Type 0
+CanonicFits (Ok c) = Hold (check_canonic c)
+CanonicFits (Err why) = Unit
 
-unfoldable pub DomainFits : CircleDomainAnswer → Type 0
-DomainFits (D.Value d) = Hold (check d.half_coset)
-DomainFits (D.Refused why) = Unit
+unfoldable pub DomainFits : Result CircleDomain Refusal → Type 0
+DomainFits (Ok d) = Hold (check d.half_coset)
+DomainFits (Err why) = Unit
 
 -- also shifted by k: the shift is accepted, and the domain that it gives
-unfoldable pub PartFits : CircleDomainAnswer → ℕ → Type 0
-PartFits (D.Value d) k = Hold (check_with_index d.half_coset (of_index k)) × Hold (check (shifted d.half_coset k))
-PartFits (D.Refused why) k = Unit
+unfoldable pub PartFits : Result CircleDomain Refusal → ℕ → Type 0
+PartFits (Ok d) k = Hold (check_with_index d.half_coset (of_index k)) × Hold (check (shifted d.half_coset k))
+PartFits (Err why) k = Unit
 
 -- both indices of an iterator
 abbrev pub BothFit : CosetIterator → Type 0
@@ -76,23 +62,23 @@ BothFit it = (IsIndex it.cur) × (IsIndex it.step)
 abbrev pub AllFit : CircleDomainIndexIterator → Type 0
 AllFit it = (BothFit it.first) × (BothFit it.second)
 
-unfoldable pub IteratorFits : CosetIteratorAnswer → Type 0
-IteratorFits (T.Value it) = BothFit it
-IteratorFits (T.Refused why) = Unit
+unfoldable pub IteratorFits : Result CosetIterator Refusal → Type 0
+IteratorFits (Ok it) = BothFit it
+IteratorFits (Err why) = Unit
 
-unfoldable pub DomainIteratorFits : CircleDomainIndexIteratorAnswer → Type 0
-DomainIteratorFits (DT.Value it) = AllFit it
-DomainIteratorFits (DT.Refused why) = Unit
+unfoldable pub DomainIteratorFits : Result CircleDomainIndexIterator Refusal → Type 0
+DomainIteratorFits (Ok it) = AllFit it
+DomainIteratorFits (Err why) = Unit
 
-unfoldable pub StepFits : CosetStep → Type 0
-StepFits (S.Next k rest) = (IsIndex k) × (BothFit rest)
-StepFits (S.Done rest) = BothFit rest
-StepFits (S.Refused why) = Unit
+unfoldable pub StepFits : Result (Option CirclePointIndex × CosetIterator) Refusal → Type 0
+StepFits (Ok (Some k, rest)) = (IsIndex k) × (BothFit rest)
+StepFits (Ok (None, rest)) = BothFit rest
+StepFits (Err why) = Unit
 
-unfoldable pub DomainStepFits : CircleDomainStep → Type 0
-DomainStepFits (DS.Next k rest) = (IsIndex k) × (AllFit rest)
-DomainStepFits (DS.Done rest) = AllFit rest
-DomainStepFits (DS.Refused why) = Unit
+unfoldable pub DomainStepFits : Result (Option CirclePointIndex × CircleDomainIndexIterator) Refusal → Type 0
+DomainStepFits (Ok (Some k, rest)) = (IsIndex k) × (AllFit rest)
+DomainStepFits (Ok (None, rest)) = AllFit rest
+DomainStepFits (Err why) = Unit
 
 -- the calls of indices; `index_answers` proves it, as do the theorems below for the others
 pub record IndexAnswers : Type 0 where
@@ -139,17 +125,17 @@ pub record DomainAnswers : Type 0 where
 
 -- ---- an answer has what its value has where every test holds
 
-index_answer : (checks : Checks) (k : CirclePointIndex) → (Hold checks → IsIndex k) → IndexFits (checked checks I.Refused (I.Value k))
+index_answer : (checks : Checks) (k : CirclePointIndex) → (Hold checks → IsIndex k) → IndexFits (checked checks k)
 unfolding IndexFits
-index_answer checks k = checked_has IndexFits checks I.Refused (I.Value k) (λ why. tt)
+index_answer checks k = checked_has IndexFits checks k (λ why. tt)
 
-coset_answer_lem : (checks : Checks) (c : Coset) → (Hold checks → Fits c) → CosetFits (checked checks C.Refused (C.Value c))
+coset_answer_lem : (checks : Checks) (c : Coset) → (Hold checks → Fits c) → CosetFits (checked checks c)
 unfolding CosetFits
-coset_answer_lem checks c h = checked_has CosetFits checks C.Refused (C.Value c) (λ why. tt) (λ t. fits_hold c (h t))
+coset_answer_lem checks c h = checked_has CosetFits checks c (λ why. tt) (λ t. fits_hold c (h t))
 
-domain_answer : (checks : Checks) (c : Coset) → (Hold checks → Fits c) → DomainFits (checked checks D.Refused (D.Value (of_half c)))
+domain_answer : (checks : Checks) (c : Coset) → (Hold checks → Fits c) → DomainFits (checked checks (of_half c))
 unfolding DomainFits
-domain_answer checks c h = checked_has DomainFits checks D.Refused (D.Value (of_half c)) (λ why. tt) (λ t. fits_hold c (h t))
+domain_answer checks c h = checked_has DomainFits checks (of_half c) (λ why. tt) (λ t. fits_hold c (h t))
 
 cond_has : {A : Type 0} (Has : A → Type 0) (t : Bool) (x y : A) → Has x → Has y → Has (cond t x y)
 cond_has Has true x y h k = h
@@ -158,8 +144,6 @@ cond_has Has false x y h k = k
 -- ---- indices
 
 pub index_answers : IndexAnswers
-unfolding Index.reduce_answer Index.subgroup_gen_answer Index.half_answer Index.add_answer Index.sub_answer Index.neg_answer
-    Index.mul_answer
 index_answers = record {
   reduce = λ k. index_answer (in_range k) (of_index (k.0 % 2 ^ 31)) (λ h. omega arith);
   subgroup_gen = λ n. index_answer (need (leb n 31) LogSize) (of_index (subgroup_gen n)) (λ h. subgroup_gen_index n);
@@ -182,8 +166,7 @@ unfolding Iterator.advanced
 advanced_fits it f = (omega arith, f.1)
 
 pub coset_answers : CosetAnswers
-unfolding Coset.new_answer Coset.subgroup_answer Coset.odds_answer Coset.half_odds_answer Coset.repeated_double_answer Coset.double_answer
-    Coset.shift_answer Coset.conjugate_answer Coset.index_at_answer Coset.iter_indices_answer Iterator.next_answer IteratorFits StepFits
+unfolding IteratorFits StepFits
 coset_answers = record {
   new = λ k n. coset_answer_lem (need (leb n 31) LogSize ++ in_range k) (coset_of k.0 n)
       (λ h. made_fits k.0 n (hold_index k h.1) (leb-true n 31 h.0));
@@ -197,11 +180,12 @@ coset_answers = record {
   shift = λ c k. coset_answer_lem (check_with_index c k) (shifted c k.0) (λ h. shifted_fits c k.0 (hold_with_index c k h).0);
   conjugate = λ c. coset_answer_lem (check c) (conjugated c) (λ h. conjugate_fits c (hold_fits c h).log_size_fits);
   index_at = λ c i. index_answer (check c) (of_index (index_at c i)) (λ h. index_at_index c i);
-  iter_indices = λ c. checked_has IteratorFits (check c) T.Refused (T.Value (iterator_of c)) (λ why. tt)
+  iter_indices = λ c. checked_has IteratorFits (check c) (iterator_of c) (λ why. tt)
       (λ h. iterator_fits c (hold_fits c h));
-  next = λ it. checked_has StepFits (Iterator.check it) S.Refused _ (λ why. tt) (λ h.
+  next = λ it. checked_has StepFits (Iterator.check it) _ (λ why. tt) (λ h.
       let f = hold_iterator it h in
-      cond_has StepFits (eqb it.remaining 0) (S.Done it) (S.Next it.cur (Iterator.advanced it)) f (f.0, advanced_fits it f));
+      cond_has (λ step. StepFits (Ok step)) (eqb it.remaining 0) (None, it) (Some it.cur, Iterator.advanced it) f
+      (f.0, advanced_fits it f));
 }
   where
     doublings : (c : Coset) (n : ℕ) → CosetFits (Coset.repeated_double_answer c n)
@@ -211,10 +195,9 @@ coset_answers = record {
 -- ---- canonic cosets
 
 pub canonic_answers : CanonicAnswers
-unfolding Canonic.try_new_answer Canonic.coset_answer Canonic.half_coset_answer Canonic.circle_domain_answer Canonic.initial_index_answer
-    Canonic.step_size_answer Canonic.index_at_answer CanonicFits
+unfolding CanonicFits
 canonic_answers = record {
-  try_new = λ n. checked_has CanonicFits (need (is_log_size n) LogSize) K.Refused (K.Value (canonic_of n)) (λ why. tt)
+  try_new = λ n. checked_has CanonicFits (need (is_log_size n) LogSize) (canonic_of n) (λ why. tt)
       (λ h. let range = log_size_fits_lem n h.0 in canonic_hold (canonic_of n) (canonic_of_fits n range.0 range.1));
   coset = λ c. coset_answer_lem (check_canonic c) c.coset (λ h. (hold_canonic c h).coset);
   half_coset = λ c. coset_answer_lem (check_canonic c) (half_of c.coset.log_size)
@@ -241,20 +224,18 @@ abbrev room : CircleDomain → ℕ → ℕ → Checks
 room d n words = need (leb n d.half_coset.log_size) Doublings ++ need (leb (2 ^ n) words) Length
 
 pub domain_answers : DomainAnswers
-unfolding Domain.new_answer Domain.shift_answer Domain.split_answer Domain.index_at_answer Domain.iter_indices_answer DomainIteratorFits
-    Iterator.domain_next_answer Iterator.check_both Iterator.check DomainStepFits PartFits
+unfolding DomainIteratorFits DomainStepFits PartFits
 domain_answers = record {
   new = λ c. domain_answer (check c) c (hold_fits c);
   shift = λ d k. domain_answer (check_with_index d.half_coset k) (shifted d.half_coset k.0)
       (λ h. shifted_fits d.half_coset k.0 (hold_with_index d.half_coset k h).0);
   split = λ d n words. domain_answer (check d.half_coset ++ room d n words) (smaller d n) (smaller_fits d n words);
-  part = λ d n words i. checked_has (λ r. PartFits r (at d i)) (check d.half_coset ++ room d n words) D.Refused
-      (D.Value (of_half (smaller d n))) (λ why. tt)
+  part = λ d n words i. checked_has (λ r. PartFits r (at d i)) (check d.half_coset ++ room d n words) (of_half (smaller d n)) (λ why. tt)
       (λ h. let f = smaller_fits d n words h in
       (with_index_hold (smaller d n) (of_index (at d i)) f (omega arith), fits_hold _ (shifted_fits (smaller d n) (at d i) f)));
   index_at = λ d i. index_answer (check d.half_coset) (of_index (domain_index_at d.half_coset i))
       (λ h. domain_index_index d.half_coset i);
-  iter_indices = λ d. checked_has DomainIteratorFits (check d.half_coset) DT.Refused (DT.Value (domain_iterator_of d.half_coset))
+  iter_indices = λ d. checked_has DomainIteratorFits (check d.half_coset) (domain_iterator_of d.half_coset)
       (λ why. tt) (λ h. domain_iterator_fits d.half_coset (hold_fits d.half_coset h));
   next = domain_step;
 }
@@ -273,10 +254,10 @@ domain_answers = record {
         (omega (arith, f.log_size_fits))
 
     domain_step : (it : CircleDomainIndexIterator) → DomainStepFits (Iterator.domain_next_answer it)
-    domain_step it = checked_has DomainStepFits (Iterator.check_both it) DS.Refused _ (λ why. tt) (λ h.
+    domain_step it = checked_has DomainStepFits (Iterator.check_both it) _ (λ why. tt) (λ h.
         let both = hold_split (Iterator.check it.first) (Iterator.check it.second) h in
         let f = hold_iterator it.first both.0 in
         let g = hold_iterator it.second both.1 in
-        cond_has DomainStepFits (eqb it.first.remaining 0) _ _
-        (cond_has DomainStepFits (eqb it.second.remaining 0) _ _ (f, g) (g.0, (f, advanced_fits it.second g)))
+        cond_has (λ step. DomainStepFits (Ok step)) (eqb it.first.remaining 0) _ _
+        (cond_has (λ step. DomainStepFits (Ok step)) (eqb it.second.remaining 0) _ _ (f, g) (g.0, (f, advanced_fits it.second g)))
         (f.0, (advanced_fits it.first f, g)))

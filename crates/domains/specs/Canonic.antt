@@ -1,28 +1,18 @@
 -- What each call of canonic cosets answers: the refusals of the table in docs/CALLS.md in its order, then its formulas.
-use Rattle.std.specs.Prelude.{ℕ, ◌+◌, ◌-◌, ◌^◌}
+use Rattle.std.specs.Prelude.{Result, ℕ, ◌+◌, ◌-◌}
 use Rattle.fields.specs.Check.{need, checked}
 use Rattle.fields.specs.LogSize.{is_log_size}
+use Rattle.fields.specs.declared.refusal.Refusal.{Refusal}
 use Rattle.fields.specs.declared.refusal.Refusal.TheVariants.{LogSize}
-use Rattle.fields.specs.declared.answer.U64Answer.{U64Answer}
-use Rattle.fields.specs.declared.answer.U64Answer.TheVariants as L
-use Rattle.fields.specs.declared.answer.U32Answer.{U32Answer}
-use Rattle.fields.specs.declared.answer.U32Answer.TheVariants as U
-use Rattle.circle.specs.Point.{of_point}
-use Rattle.circle.specs.Index.{of_index, index_point, subgroup_gen}
-use Rattle.circle.specs.declared.point.CirclePointAnswer.{CirclePointAnswer}
-use Rattle.circle.specs.declared.point.CirclePointAnswer.TheVariants as P
-use Rattle.circle.specs.declared.index.CirclePointIndexAnswer.{CirclePointIndexAnswer}
-use Rattle.circle.specs.declared.index.CirclePointIndexAnswer.TheVariants as I
+use Rattle.circle.specs.Index.{subgroup_gen}
+use Rattle.fields.specs.declared.m31.M31.{M31}
+use Rattle.circle.specs.declared.point.CirclePoint.{CirclePoint}
+use Rattle.circle.specs.declared.index.CirclePointIndex.{CirclePointIndex}
 use Rattle.domains.specs.declared.coset.Coset.{Coset}
-use Rattle.domains.specs.declared.coset.CosetAnswer.{CosetAnswer}
-use Rattle.domains.specs.declared.coset.CosetAnswer.TheVariants as C
 use Rattle.domains.specs.declared.canonic.CanonicCoset.{CanonicCoset}
-use Rattle.domains.specs.declared.canonic.CanonicCosetAnswer.{CanonicCosetAnswer}
-use Rattle.domains.specs.declared.canonic.CanonicCosetAnswer.TheVariants.{Value, Refused}
-use Rattle.domains.specs.declared.domain.CircleDomainAnswer.{CircleDomainAnswer}
-use Rattle.domains.specs.declared.domain.CircleDomainAnswer.TheVariants as D
+use Rattle.domains.specs.declared.domain.CircleDomain.{CircleDomain}
 use Rattle.domains.specs.Record.{check_canonic}
-use Rattle.domains.specs.Coset.{coset_of, index_at}
+use Rattle.domains.specs.Coset.{coset_of, size_by, log_size_by, index_at_by, at_by}
 use Rattle.domains.specs.Domain.{of_half}
 
 -- odds(n)
@@ -33,36 +23,36 @@ canonic_of n = record { coset = coset_of (subgroup_gen (n + 1)) n }
 unfoldable pub half_of : ℕ → Coset
 half_of n = coset_of (subgroup_gen (n - 1 + 2)) (n - 1)
 
-unfoldable pub try_new_answer : ℕ → CanonicCosetAnswer
-try_new_answer n = checked (need (is_log_size n) LogSize) Refused (Value (canonic_of n))
+abbrev pub try_new_answer : ℕ → Result CanonicCoset Refusal
+try_new_answer n = checked (need (is_log_size n) LogSize) (canonic_of n)
 
-unfoldable pub coset_answer : CanonicCoset → CosetAnswer
-coset_answer c = checked (check_canonic c) C.Refused (C.Value c.coset)
+abbrev pub coset_answer : CanonicCoset → Result Coset Refusal
+coset_answer c = checked (check_canonic c) c.coset
 
 -- by the log size alone
-unfoldable pub half_coset_answer : CanonicCoset → CosetAnswer
-half_coset_answer c = checked (check_canonic c) C.Refused (C.Value (half_of c.coset.log_size))
+abbrev pub half_coset_answer : CanonicCoset → Result Coset Refusal
+half_coset_answer c = checked (check_canonic c) (half_of c.coset.log_size)
 
-unfoldable pub circle_domain_answer : CanonicCoset → CircleDomainAnswer
-circle_domain_answer c = checked (check_canonic c) D.Refused (D.Value (of_half (half_of c.coset.log_size)))
+abbrev pub circle_domain_answer : CanonicCoset → Result CircleDomain Refusal
+circle_domain_answer c = checked (check_canonic c) (of_half (half_of c.coset.log_size))
 
-unfoldable pub log_size_answer : CanonicCoset → U32Answer
-log_size_answer c = checked (check_canonic c) U.Refused (U.Value c.coset.log_size)
+abbrev pub log_size_answer : CanonicCoset → Result ℕ Refusal
+log_size_answer c = log_size_by (check_canonic c) c.coset
 
-unfoldable pub size_answer : CanonicCoset → U64Answer
-size_answer c = checked (check_canonic c) L.Refused (L.Value (2 ^ c.coset.log_size))
+abbrev pub size_answer : CanonicCoset → Result ℕ Refusal
+size_answer c = size_by (check_canonic c) c.coset
 
-unfoldable pub initial_index_answer : CanonicCoset → CirclePointIndexAnswer
-initial_index_answer c = checked (check_canonic c) I.Refused (I.Value c.coset.initial_index)
+abbrev pub initial_index_answer : CanonicCoset → Result CirclePointIndex Refusal
+initial_index_answer c = checked (check_canonic c) c.coset.initial_index
 
-unfoldable pub step_size_answer : CanonicCoset → CirclePointIndexAnswer
-step_size_answer c = checked (check_canonic c) I.Refused (I.Value c.coset.step_size)
+abbrev pub step_size_answer : CanonicCoset → Result CirclePointIndex Refusal
+step_size_answer c = checked (check_canonic c) c.coset.step_size
 
-unfoldable pub step_answer : CanonicCoset → CirclePointAnswer
-step_answer c = checked (check_canonic c) P.Refused (P.Value c.coset.step)
+abbrev pub step_answer : CanonicCoset → Result (CirclePoint M31) Refusal
+step_answer c = checked (check_canonic c) c.coset.step
 
-unfoldable pub index_at_answer : CanonicCoset → ℕ → CirclePointIndexAnswer
-index_at_answer c i = checked (check_canonic c) I.Refused (I.Value (of_index (index_at c.coset i)))
+abbrev pub index_at_answer : CanonicCoset → ℕ → Result CirclePointIndex Refusal
+index_at_answer c i = index_at_by (check_canonic c) c.coset i
 
-unfoldable pub at_answer : CanonicCoset → ℕ → CirclePointAnswer
-at_answer c i = checked (check_canonic c) P.Refused (P.Value (of_point (index_point (index_at c.coset i))))
+abbrev pub at_answer : CanonicCoset → ℕ → Result (CirclePoint M31) Refusal
+at_answer c i = at_by (check_canonic c) c.coset i

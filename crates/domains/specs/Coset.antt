@@ -1,28 +1,17 @@
 -- What each call of cosets answers: the refusals of its records, then the others of the table in docs/CALLS.md, then its formulas.
-use Rattle.std.specs.Prelude.{ℕ, ◌+◌, ◌-◌, ◌*◌, ◌%◌, ◌^◌, Bool, ◌&&◌, ◌++◌, leb, eqb}
+use Rattle.std.specs.Prelude.{Result, ℕ, ◌+◌, ◌-◌, ◌*◌, ◌%◌, ◌^◌, Bool, ◌&&◌, ◌++◌, leb, eqb}
 use Rattle.algebra.specs.Doubling.{iterate, double}
-use Rattle.fields.specs.Check.{need, checked}
+use Rattle.fields.specs.Check.{Checks, need, checked}
 use Rattle.fields.specs.Words.{words31}
+use Rattle.fields.specs.declared.refusal.Refusal.{Refusal}
 use Rattle.fields.specs.declared.refusal.Refusal.TheVariants.{LogSize, Doublings}
-use Rattle.fields.specs.declared.answer.U64Answer.{U64Answer}
-use Rattle.fields.specs.declared.answer.U64Answer.TheVariants as L
-use Rattle.fields.specs.declared.answer.U32Answer.{U32Answer}
-use Rattle.fields.specs.declared.answer.U32Answer.TheVariants as U
-use Rattle.fields.specs.declared.answer.BoolAnswer.{BoolAnswer}
-use Rattle.fields.specs.declared.answer.BoolAnswer.TheVariants as B
 use Rattle.circle.specs.Point.{of_point, point_of}
 use Rattle.circle.specs.Index.{of_index, in_range, index_point, subgroup_gen, neg_index}
-use Rattle.circle.specs.declared.point.CirclePointAnswer.{CirclePointAnswer}
-use Rattle.circle.specs.declared.point.CirclePointAnswer.TheVariants as P
+use Rattle.fields.specs.declared.m31.M31.{M31}
+use Rattle.circle.specs.declared.point.CirclePoint.{CirclePoint}
 use Rattle.circle.specs.declared.index.CirclePointIndex.{CirclePointIndex}
-use Rattle.circle.specs.declared.index.CirclePointIndexAnswer.{CirclePointIndexAnswer}
-use Rattle.circle.specs.declared.index.CirclePointIndexAnswer.TheVariants as I
 use Rattle.domains.specs.declared.coset.Coset.{Coset}
-use Rattle.domains.specs.declared.coset.CosetAnswer.{CosetAnswer}
-use Rattle.domains.specs.declared.coset.CosetAnswer.TheVariants.{Value, Refused}
 use Rattle.domains.specs.declared.iterator.CosetIterator.{CosetIterator}
-use Rattle.domains.specs.declared.iterator.CosetIteratorAnswer.{CosetIteratorAnswer}
-use Rattle.domains.specs.declared.iterator.CosetIteratorAnswer.TheVariants as T
 use Rattle.domains.specs.Record.{same_point, check, check_two, check_with_index}
 
 -- 2^n points from index k on
@@ -35,36 +24,50 @@ coset_of k n = record {
   log_size = n;
 }
 
-unfoldable pub new_answer : CirclePointIndex → ℕ → CosetAnswer
-new_answer k n = checked (need (leb n 31) LogSize ++ in_range k) Refused (Value (coset_of k.0 n))
+abbrev pub new_answer : CirclePointIndex → ℕ → Result Coset Refusal
+new_answer k n = checked (need (leb n 31) LogSize ++ in_range k) (coset_of k.0 n)
 
-unfoldable pub subgroup_answer : ℕ → CosetAnswer
-subgroup_answer n = checked (need (leb n 31) LogSize) Refused (Value (coset_of 0 n))
+abbrev pub subgroup_answer : ℕ → Result Coset Refusal
+subgroup_answer n = checked (need (leb n 31) LogSize) (coset_of 0 n)
 
-unfoldable pub odds_answer : ℕ → CosetAnswer
-odds_answer n = checked (need (leb n 30) LogSize) Refused (Value (coset_of (subgroup_gen (n + 1)) n))
+abbrev pub odds_answer : ℕ → Result Coset Refusal
+odds_answer n = checked (need (leb n 30) LogSize) (coset_of (subgroup_gen (n + 1)) n)
 
-unfoldable pub half_odds_answer : ℕ → CosetAnswer
-half_odds_answer n = checked (need (leb n 29) LogSize) Refused (Value (coset_of (subgroup_gen (n + 2)) n))
-
-unfoldable pub size_answer : Coset → U64Answer
-size_answer c = checked (check c) L.Refused (L.Value (2 ^ c.log_size))
-
-unfoldable pub log_size_answer : Coset → U32Answer
-log_size_answer c = checked (check c) U.Refused (U.Value c.log_size)
-
-unfoldable pub initial_answer : Coset → CirclePointAnswer
-initial_answer c = checked (check c) P.Refused (P.Value c.initial)
+abbrev pub half_odds_answer : ℕ → Result Coset Refusal
+half_odds_answer n = checked (need (leb n 29) LogSize) (coset_of (subgroup_gen (n + 2)) n)
 
 -- by the indices, for any i
 unfoldable pub index_at : Coset → ℕ → ℕ
 index_at c i = (c.initial_index.0 + c.step_size.0 * i) % 2 ^ 31
 
-unfoldable pub index_at_answer : Coset → ℕ → CirclePointIndexAnswer
-index_at_answer c i = checked (check c) I.Refused (I.Value (of_index (index_at c i)))
+-- what a coset answers whose record has these checks, also that of a canonic coset
 
-unfoldable pub at_answer : Coset → ℕ → CirclePointAnswer
-at_answer c i = checked (check c) P.Refused (P.Value (of_point (index_point (index_at c i))))
+abbrev pub size_by : Checks → Coset → Result ℕ Refusal
+size_by checks c = checked checks (2 ^ c.log_size)
+
+abbrev pub log_size_by : Checks → Coset → Result ℕ Refusal
+log_size_by checks c = checked checks c.log_size
+
+abbrev pub index_at_by : Checks → Coset → ℕ → Result CirclePointIndex Refusal
+index_at_by checks c i = checked checks (of_index (index_at c i))
+
+abbrev pub at_by : Checks → Coset → ℕ → Result (CirclePoint M31) Refusal
+at_by checks c i = checked checks (of_point (index_point (index_at c i)))
+
+abbrev pub size_answer : Coset → Result ℕ Refusal
+size_answer c = size_by (check c) c
+
+abbrev pub log_size_answer : Coset → Result ℕ Refusal
+log_size_answer c = log_size_by (check c) c
+
+abbrev pub index_at_answer : Coset → ℕ → Result CirclePointIndex Refusal
+index_at_answer c i = index_at_by (check c) c i
+
+abbrev pub at_answer : Coset → ℕ → Result (CirclePoint M31) Refusal
+at_answer c i = at_by (check c) c i
+
+abbrev pub initial_answer : Coset → Result (CirclePoint M31) Refusal
+initial_answer c = checked (check c) c.initial
 
 -- indices and points each by themselves
 unfoldable pub doubled : Coset → Coset
@@ -77,11 +80,10 @@ doubled c = record {
 }
 
 -- no more doublings than the log size, else number 7
-unfoldable pub repeated_double_answer : Coset → ℕ → CosetAnswer
-repeated_double_answer c n = checked (check c ++ need (leb n c.log_size) Doublings) Refused (Value (iterate n doubled c))
+abbrev pub repeated_double_answer : Coset → ℕ → Result Coset Refusal
+repeated_double_answer c n = checked (check c ++ need (leb n c.log_size) Doublings) (iterate n doubled c)
 
-unfoldable pub double_answer : Coset → CosetAnswer
-unfolding repeated_double_answer
+abbrev pub double_answer : Coset → Result Coset Refusal
 double_answer c = repeated_double_answer c 1
 
 -- field by field
@@ -95,8 +97,8 @@ same_coset c d =
 unfoldable pub is_doubling_of : Coset → Coset → Bool
 is_doubling_of c d = leb c.log_size d.log_size && same_coset c (iterate (d.log_size - c.log_size) doubled d)
 
-unfoldable pub is_doubling_of_answer : Coset → Coset → BoolAnswer
-is_doubling_of_answer c d = checked (check_two c d) B.Refused (B.Value (is_doubling_of c d))
+abbrev pub is_doubling_of_answer : Coset → Coset → Result Bool Refusal
+is_doubling_of_answer c d = checked (check_two c d) (is_doubling_of c d)
 
 -- the initial point is that of the new index; the step's point stays
 unfoldable pub shifted : Coset → ℕ → Coset
@@ -108,8 +110,8 @@ shifted c k = record {
   log_size = c.log_size;
 }
 
-unfoldable pub shift_answer : Coset → CirclePointIndex → CosetAnswer
-shift_answer c k = checked (check_with_index c k) Refused (Value (shifted c k.0))
+abbrev pub shift_answer : Coset → CirclePointIndex → Result Coset Refusal
+shift_answer c k = checked (check_with_index c k) (shifted c k.0)
 
 -- both points are those of the negative indices
 unfoldable pub conjugated : Coset → Coset
@@ -121,12 +123,12 @@ conjugated c = record {
   log_size = c.log_size;
 }
 
-unfoldable pub conjugate_answer : Coset → CosetAnswer
-conjugate_answer c = checked (check c) Refused (Value (conjugated c))
+abbrev pub conjugate_answer : Coset → Result Coset Refusal
+conjugate_answer c = checked (check c) (conjugated c)
 
 -- the indices as they are stored, and as many steps as the size
 unfoldable pub iterator_of : Coset → CosetIterator
 iterator_of c = record { cur = c.initial_index; step = c.step_size; remaining = 2 ^ c.log_size }
 
-unfoldable pub iter_indices_answer : Coset → CosetIteratorAnswer
-iter_indices_answer c = checked (check c) T.Refused (T.Value (iterator_of c))
+abbrev pub iter_indices_answer : Coset → Result CosetIterator Refusal
+iter_indices_answer c = checked (check c) (iterator_of c)

@@ -5,7 +5,6 @@ use Rattle.std.proofs.Math.Nat as N
 use Rattle.algebra.specs.M31.{m31}
 use Rattle.algebra.specs.ZMod.{mod-mul-mod}
 use Rattle.algebra.specs.Doubling.{iterate, double}
-use Rattle.fields.specs.AnswerLaws.{first_holds}
 use Rattle.fields.specs.Words.{words31}
 use Rattle.fields.specs.Inverse.{m31_representation}
 use Rattle.circle.specs.Point.{of_point, point_of}
@@ -96,9 +95,9 @@ pub made_doubling : (k n : ℕ) → n ≤ 30 → is_doubling_of (coset_of ((k * 
 unfolding is_doubling_of iterate coset_of
 made_doubling k n h =
     let once : suc n - n ≡ 1 = omega arith in
-    sym (first_holds _ _ (le-leb n (suc n) (omega arith)))
-    ∙ ap (λ (t : ℕ). same_coset (coset_of ((k * 2) % 2 ^ 31) n) (iterate t doubled (coset_of k (suc n)))) once
-    ∙ ap (same_coset (coset_of ((k * 2) % 2 ^ 31) n)) (made_doubled k n h) ∙ same_itself (coset_of ((k * 2) % 2 ^ 31) n)
+    rw (le-leb n (suc n) (omega arith))
+    (ap (λ (t : ℕ). same_coset (coset_of ((k * 2) % 2 ^ 31) n) (iterate t doubled (coset_of k (suc n)))) once
+    ∙ ap (same_coset (coset_of ((k * 2) % 2 ^ 31) n)) (made_doubled k n h) ∙ same_itself (coset_of ((k * 2) % 2 ^ 31) n))
 
 -- ---- cosets that are made of others
 

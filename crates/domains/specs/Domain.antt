@@ -1,29 +1,19 @@
 -- What each call of circle domains answers: the refusals of its record, then the others of the table in docs/CALLS.md, then its formulas.
+use Rattle.std.specs.Prelude.{Result, Ok, Err}
 use Rattle.std.specs.Prelude.{ℕ, ◌+◌, ◌-◌, ◌*◌, ◌%◌, ◌^◌, ◌≤◌, ◌<◌, ◌≡◌, Bool, true, cond, ◌||◌, List, ◌++◌, leb, ltb, eqb, drop}
 use Rattle.std.proofs.Common.{lt-ltb, le-ltb, eq-eqb, ne_eqb}
 use Rattle.algebra.specs.Listing.{listing}
 use Rattle.fields.specs.Check.{need, checked}
+use Rattle.fields.specs.declared.refusal.Refusal.{Refusal}
 use Rattle.fields.specs.declared.refusal.Refusal.TheVariants.{Length, Doublings}
-use Rattle.fields.specs.declared.answer.U64Answer.{U64Answer}
-use Rattle.fields.specs.declared.answer.U64Answer.TheVariants as L
-use Rattle.fields.specs.declared.answer.U32Answer.{U32Answer}
-use Rattle.fields.specs.declared.answer.U32Answer.TheVariants as U
-use Rattle.fields.specs.declared.answer.BoolAnswer.{BoolAnswer}
-use Rattle.fields.specs.declared.answer.BoolAnswer.TheVariants as B
 use Rattle.circle.specs.Point.{of_point}
 use Rattle.circle.specs.Index.{of_index, index_point, neg_index}
-use Rattle.circle.specs.declared.point.CirclePointAnswer.{CirclePointAnswer}
-use Rattle.circle.specs.declared.point.CirclePointAnswer.TheVariants as P
+use Rattle.fields.specs.declared.m31.M31.{M31}
+use Rattle.circle.specs.declared.point.CirclePoint.{CirclePoint}
 use Rattle.circle.specs.declared.index.CirclePointIndex.{CirclePointIndex}
-use Rattle.circle.specs.declared.index.CirclePointIndexAnswer.{CirclePointIndexAnswer}
-use Rattle.circle.specs.declared.index.CirclePointIndexAnswer.TheVariants as I
 use Rattle.domains.specs.declared.coset.Coset.{Coset}
 use Rattle.domains.specs.declared.domain.CircleDomain.{CircleDomain}
-use Rattle.domains.specs.declared.domain.CircleDomainAnswer.{CircleDomainAnswer}
-use Rattle.domains.specs.declared.domain.CircleDomainAnswer.TheVariants.{Value, Refused}
 use Rattle.domains.specs.declared.iterator.CircleDomainIndexIterator.{CircleDomainIndexIterator}
-use Rattle.domains.specs.declared.iterator.CircleDomainIndexIteratorAnswer.{CircleDomainIndexIteratorAnswer}
-use Rattle.domains.specs.declared.iterator.CircleDomainIndexIteratorAnswer.TheVariants as T
 use Rattle.domains.specs.Record.{check, check_with_index}
 use Rattle.domains.specs.Coset.{coset_of, index_at, shifted, conjugated, iterator_of}
 
@@ -31,25 +21,25 @@ use Rattle.domains.specs.Coset.{coset_of, index_at, shifted, conjugated, iterato
 abbrev pub of_half : Coset → CircleDomain
 of_half c = record { half_coset = c }
 
-unfoldable pub new_answer : Coset → CircleDomainAnswer
-new_answer c = checked (check c) Refused (Value (of_half c))
+abbrev pub new_answer : Coset → Result CircleDomain Refusal
+new_answer c = checked (check c) (of_half c)
 
 -- 2^32 for a half coset of log size 31
-unfoldable pub size_answer : CircleDomain → U64Answer
-size_answer d = checked (check d.half_coset) L.Refused (L.Value (2 ^ (d.half_coset.log_size + 1)))
+abbrev pub size_answer : CircleDomain → Result ℕ Refusal
+size_answer d = checked (check d.half_coset) (2 ^ (d.half_coset.log_size + 1))
 
-unfoldable pub log_size_answer : CircleDomain → U32Answer
-log_size_answer d = checked (check d.half_coset) U.Refused (U.Value (d.half_coset.log_size + 1))
+abbrev pub log_size_answer : CircleDomain → Result ℕ Refusal
+log_size_answer d = checked (check d.half_coset) (d.half_coset.log_size + 1)
 
 -- the half coset's indices, and from its size on the negatives, for any i
 unfoldable pub domain_index_at : Coset → ℕ → ℕ
 domain_index_at c i = cond (ltb i (2 ^ c.log_size)) (index_at c i) (neg_index (index_at c (i - 2 ^ c.log_size)))
 
-unfoldable pub index_at_answer : CircleDomain → ℕ → CirclePointIndexAnswer
-index_at_answer d i = checked (check d.half_coset) I.Refused (I.Value (of_index (domain_index_at d.half_coset i)))
+abbrev pub index_at_answer : CircleDomain → ℕ → Result CirclePointIndex Refusal
+index_at_answer d i = checked (check d.half_coset) (of_index (domain_index_at d.half_coset i))
 
-unfoldable pub at_answer : CircleDomain → ℕ → CirclePointAnswer
-at_answer d i = checked (check d.half_coset) P.Refused (P.Value (of_point (index_point (domain_index_at d.half_coset i))))
+abbrev pub at_answer : CircleDomain → ℕ → Result (CirclePoint M31) Refusal
+at_answer d i = checked (check d.half_coset) (of_point (index_point (domain_index_at d.half_coset i)))
 
 -- of a half coset's initial and step indices: where the step is 0, whether the initial index is 2^29 or 3 times 2^29; elsewhere
 -- whether 4 times the initial index, modulo 2^31, equals the step
@@ -57,32 +47,31 @@ unfoldable pub is_canonic : ℕ → ℕ → Bool
 is_canonic initial step = cond (eqb step 0) (eqb initial (2 ^ 29) || eqb initial (3 * 2 ^ 29)) (eqb ((initial * 4) % 2 ^ 31) step)
 
 -- by the two indices alone
-unfoldable pub is_canonic_answer : CircleDomain → BoolAnswer
+abbrev pub is_canonic_answer : CircleDomain → Result Bool Refusal
 is_canonic_answer d =
-    checked (check d.half_coset) B.Refused
-    (B.Value (is_canonic d.half_coset.initial_index.0 d.half_coset.step_size.0))
+    checked (check d.half_coset) (is_canonic d.half_coset.initial_index.0 d.half_coset.step_size.0)
 
 -- the half coset's iterator, then the conjugate's
 unfoldable pub domain_iterator_of : Coset → CircleDomainIndexIterator
 domain_iterator_of c = record { first = iterator_of c; second = iterator_of (conjugated c) }
 
-unfoldable pub iter_indices_answer : CircleDomain → CircleDomainIndexIteratorAnswer
-iter_indices_answer d = checked (check d.half_coset) T.Refused (T.Value (domain_iterator_of d.half_coset))
+abbrev pub iter_indices_answer : CircleDomain → Result CircleDomainIndexIterator Refusal
+iter_indices_answer d = checked (check d.half_coset) (domain_iterator_of d.half_coset)
 
-unfoldable pub shift_answer : CircleDomain → CirclePointIndex → CircleDomainAnswer
-shift_answer d k = checked (check_with_index d.half_coset k) Refused (Value (of_half (shifted d.half_coset k.0)))
+abbrev pub shift_answer : CircleDomain → CirclePointIndex → Result CircleDomain Refusal
+shift_answer d k = checked (check_with_index d.half_coset k) (of_half (shifted d.half_coset k.0))
 
 -- into 2^n parts, the shifts into so many words: no more parts than the half coset has points, else number 7; then no fewer
 -- words than parts, else number 8
-unfoldable pub split_answer : CircleDomain → ℕ → ℕ → CircleDomainAnswer
+abbrev pub split_answer : CircleDomain → ℕ → ℕ → Result CircleDomain Refusal
 split_answer d n words =
-    checked (check d.half_coset ++ (need (leb n d.half_coset.log_size) Doublings ++ need (leb (2 ^ n) words) Length)) Refused
-    (Value (of_half (coset_of d.half_coset.initial_index.0 (d.half_coset.log_size - n))))
+    checked (check d.half_coset ++ (need (leb n d.half_coset.log_size) Doublings ++ need (leb (2 ^ n) words) Length))
+    (of_half (coset_of d.half_coset.initial_index.0 (d.half_coset.log_size - n)))
 
 -- what a call with this answer leaves in the lent slice: the step times 0, 1, .., modulo 2^31
-unfoldable pub split_exit : CircleDomainAnswer → CircleDomain → ℕ → List ℕ → List ℕ
-split_exit (Value part) d n shifts = listing (2 ^ n) (λ i. (d.half_coset.step_size.0 * i) % 2 ^ 31) ++ drop (2 ^ n) shifts
-split_exit (Refused why) d n shifts = shifts
+unfoldable pub split_exit : Result CircleDomain Refusal → CircleDomain → ℕ → List ℕ → List ℕ
+split_exit (Ok part) d n shifts = listing (2 ^ n) (λ i. (d.half_coset.step_size.0 * i) % 2 ^ 31) ++ drop (2 ^ n) shifts
+split_exit (Err why) d n shifts = shifts
 
 -- ---- laws: the positions are not periodic; from the half coset's size on, every one is on the conjugate's side
 

@@ -1,6 +1,6 @@
 -- Walks of the iterators: as many steps as the size, each with its index, then done, and done again.
 use Prim.Native.Nat.{ℕ, zero, suc, ◌+◌, ◌-◌, ◌*◌, ◌%◌, ◌^◌, ◌≤◌, ◌<◌}
-use Rattle.std.specs.Prelude.{◌≡◌, true, false, eqb}
+use Rattle.std.specs.Prelude.{◌≡◌, true, false, eqb, Option, Some, None, Result, Ok, Err}
 use Rattle.std.proofs.Math.Path.{refl, sym, ap, ap₂}
 use Rattle.std.proofs.Common.{◌∙◌}
 use Rattle.std.proofs.Math.Nat as N
@@ -9,30 +9,27 @@ use borrow.Author.Tests.{eq-eqb, ne_eqb}
 use Rattle.algebra.specs.Doubling.{iterate, iterate-suc, iterate-add}
 use Rattle.fields.specs.CheckLaws.{Hold, hold_both, hold_passes}
 use Rattle.circle.specs.Index.{of_index, in_range}
-use Rattle.circle.specs.AnswerLaws.{index_passes}
 use Rattle.domains.specs.declared.coset.Coset.{Coset}
+use Rattle.fields.specs.declared.refusal.Refusal.{Refusal}
+use Rattle.circle.specs.declared.index.CirclePointIndex.{CirclePointIndex}
 use Rattle.domains.specs.declared.iterator.CosetIterator.{CosetIterator}
-use Rattle.domains.specs.declared.iterator.CosetStep.{CosetStep}
-use Rattle.domains.specs.declared.iterator.CosetStep.TheVariants.{Next, Done, Refused}
 use Rattle.domains.specs.declared.iterator.CircleDomainIndexIterator.{CircleDomainIndexIterator}
-use Rattle.domains.specs.declared.iterator.CircleDomainStep.{CircleDomainStep}
-use Rattle.domains.specs.declared.iterator.CircleDomainStep.TheVariants as D
 use Rattle.domains.specs.Record.{Fits}
+use Rattle.domains.specs.RecordLaws.{index_passes}
 use Rattle.domains.specs.Coset.{index_at, conjugated, iterator_of}
 use Rattle.domains.specs.CosetLaws.{index_at_index, index_at-zero, conjugate_fits}
 use Rattle.domains.specs.Iterator.{check, check_both, advanced, next_answer, domain_next_answer}
 use Rattle.domains.specs.Domain.{domain_iterator_of}
 
 -- the iterator that a step hands back; itself where the step is refused
-unfoldable pub after : CosetIterator → CosetStep → CosetIterator
-after it (Next k rest) = rest
-after it (Done rest) = rest
-after it (Refused why) = it
+unfoldable pub after : CosetIterator → Result (Option CirclePointIndex × CosetIterator) Refusal → CosetIterator
+after it (Ok step) = step.1
+after it (Err why) = it
 
-unfoldable pub domain_after : CircleDomainIndexIterator → CircleDomainStep → CircleDomainIndexIterator
-domain_after it (D.Next k rest) = rest
-domain_after it (D.Done rest) = rest
-domain_after it (D.Refused why) = it
+unfoldable pub domain_after : CircleDomainIndexIterator → Result (Option CirclePointIndex × CircleDomainIndexIterator) Refusal
+    → CircleDomainIndexIterator
+domain_after it (Ok step) = step.1
+domain_after it (Err why) = it
 
 -- the iterators that so many steps hand back
 abbrev pub steps : ℕ → CosetIterator → CosetIterator
@@ -44,19 +41,22 @@ domain_steps k it = iterate k (λ it. domain_after it (domain_next_answer it)) i
 -- what the iterator of a coset hands back; `coset_walk` proves it for every coset that fits
 pub record CosetWalk (c : Coset) : Type 0 where
   pub index : (k : ℕ) → k < 2 ^ c.log_size
-      → next_answer (steps k (iterator_of c)) ≡ Next (of_index (index_at c k)) (steps (suc k) (iterator_of c))
-  pub done : (k : ℕ) → 2 ^ c.log_size ≤ k → next_answer (steps k (iterator_of c)) ≡ Done (steps (suc k) (iterator_of c))
+      → next_answer (steps k (iterator_of c)) ≡ Ok (Some (of_index (index_at c k)), steps (suc k) (iterator_of c))
+  pub done : (k : ℕ) → 2 ^ c.log_size ≤ k → next_answer (steps k (iterator_of c)) ≡ Ok (None, steps (suc k) (iterator_of c))
 
 -- what the iterator of a domain hands back; `domain_walk` proves it for every half coset that fits
 pub record DomainWalk (c : Coset) : Type 0 where
   pub first_half : (k : ℕ) → k < 2 ^ c.log_size
       → domain_next_answer (domain_steps k (domain_iterator_of c))
-      ≡ D.Next (of_index (index_at c k)) (domain_steps (suc k) (domain_iterator_of c))
+      ≡ Ok (Some (of_index (index_at c k)), domain_steps (suc k) (domain_iterator_of c))
   pub second_half : (k : ℕ) → k < 2 ^ c.log_size
       → domain_next_answer (domain_steps (2 ^ c.log_size + k) (domain_iterator_of c))
-      ≡ D.Next (of_index (index_at (conjugated c) k)) (domain_steps (suc (2 ^ c.log_size + k)) (domain_iterator_of c))
+      ≡ Ok (Some (of_index (index_at (conjugated c) k)), domain_steps (suc (2 ^ c.log_size + k)) (domain_iterator_of c))
   pub done : (k : ℕ) → 2 * 2 ^ c.log_size ≤ k
-      → domain_next_answer (domain_steps k (domain_iterator_of c)) ≡ D.Done (domain_steps (suc k) (domain_iterator_of c))
+      → domain_next_answer (domain_steps k (domain_iterator_of c)) ≡ Ok (None, domain_steps (suc k) (domain_iterator_of c))
+
+abbrev handed : {S : Type 0} → Option CirclePointIndex → S → Result (Option CirclePointIndex × S) Refusal
+handed index rest = Ok (index, rest)
 
 -- ---- a walk through known states
 
@@ -92,7 +92,7 @@ module _ (c : Coset) (f : Fits c) where
   }
 
   state_holds : (k : ℕ) → Hold (check (state_at c k))
-  unfolding check state_at
+  unfolding state_at
   state_holds k =
       hold_both (in_range (of_index (index_at c k))) (in_range c.step_size)
       (index_passes (of_index (index_at c k)) (index_at_index c k), tt) (index_passes c.step_size f.step_size_fits, tt)
@@ -115,14 +115,12 @@ module _ (c : Coset) (f : Fits c) where
   unfolding state_at
   none_left = eq-eqb (2 ^ c.log_size - 2 ^ c.log_size) 0 (omega arith)
 
-  state_step : (k : ℕ) → k < 2 ^ c.log_size → next_answer (state_at c k) ≡ Next (of_index (index_at c k)) (state_at c (suc k))
-  unfolding next_answer
+  state_step : (k : ℕ) → k < 2 ^ c.log_size → next_answer (state_at c k) ≡ Ok (Some (of_index (index_at c k)), state_at c (suc k))
   state_step k h =
-      hold_passes (check (state_at c k)) Refused _ (state_holds k) ∙ rw (some_left k h) (λ i. Next (state_index c k i) (state_next k h i))
+      hold_passes (check (state_at c k)) _ (state_holds k) ∙ rw (some_left k h) (λ i. Ok (Some (state_index c k i), state_next k h i))
 
-  state_done : next_answer (state_at c (2 ^ c.log_size)) ≡ Done (state_at c (2 ^ c.log_size))
-  unfolding next_answer
-  state_done = hold_passes (check (state_at c (2 ^ c.log_size))) Refused _ (state_holds (2 ^ c.log_size)) ∙ rw none_left
+  state_done : next_answer (state_at c (2 ^ c.log_size)) ≡ Ok (None, state_at c (2 ^ c.log_size))
+  state_done = hold_passes (check (state_at c (2 ^ c.log_size))) _ (state_holds (2 ^ c.log_size)) ∙ rw none_left
 
   state_after : (k : ℕ) → k < 2 ^ c.log_size → after (state_at c k) (next_answer (state_at c k)) ≡ state_at c (suc k)
   unfolding after
@@ -145,8 +143,8 @@ module _ (c : Coset) (f : Fits c) where
   pub coset_walk : CosetWalk c
   coset_walk = record {
     index = λ k h. ap next_answer (steps_state k (omega arith)) ∙ state_step k h
-        ∙ ap (Next (of_index (index_at c k))) (sym (steps_state (suc k) h));
-    done = λ k h. ap next_answer (steps_ended k h) ∙ state_done ∙ ap Done (sym (steps_ended (suc k) (omega arith)));
+        ∙ ap (handed (Some (of_index (index_at c k)))) (sym (steps_state (suc k) h));
+    done = λ k h. ap next_answer (steps_ended k h) ∙ state_done ∙ ap (handed None) (sym (steps_ended (suc k) (omega arith)));
   }
 
 -- ---- the domain's iterator
@@ -169,27 +167,26 @@ module _ (c : Coset) (f : Fits c) where
   move it = domain_after it (domain_next_answer it)
 
   both_hold : (j k : ℕ) → Hold (check_both (pair (state_at c j) (state_at (conjugated c) k)))
-  unfolding check check_both
   both_hold j k = hold_both (check (state_at c j)) (check (state_at (conjugated c) k)) (state_holds c f j) (state_holds (conjugated c) g k)
 
-  first_step : (k : ℕ) → k < 2 ^ c.log_size → domain_next_answer (first_at k) ≡ D.Next (of_index (index_at c k)) (first_at (suc k))
-  unfolding domain_next_answer index_at
+  first_step : (k : ℕ) → k < 2 ^ c.log_size → domain_next_answer (first_at k) ≡ Ok (Some (of_index (index_at c k)), first_at (suc k))
+  unfolding index_at
   first_step k h =
-      hold_passes (check_both (first_at k)) D.Refused _ (both_hold k 0)
-      ∙ rw (some_left c f k h) (λ i. D.Next (state_index c k i) (pair (state_next c f k h i) (state_at (conjugated c) 0)))
+      hold_passes (check_both (first_at k)) _ (both_hold k 0)
+      ∙ rw (some_left c f k h) (λ i. Ok (Some (state_index c k i), pair (state_next c f k h i) (state_at (conjugated c) 0)))
 
   second_step : (k : ℕ) → k < 2 ^ c.log_size
-      → domain_next_answer (second_at k) ≡ D.Next (of_index (index_at (conjugated c) k)) (second_at (suc k))
-  unfolding domain_next_answer conjugated index_at
+      → domain_next_answer (second_at k) ≡ Ok (Some (of_index (index_at (conjugated c) k)), second_at (suc k))
+  unfolding conjugated index_at
   second_step k h =
-      hold_passes (check_both (second_at k)) D.Refused _ (both_hold (2 ^ c.log_size) k)
+      hold_passes (check_both (second_at k)) _ (both_hold (2 ^ c.log_size) k)
       ∙ rw (none_left c f, some_left (conjugated c) g k h)
-      (λ i. D.Next (state_index (conjugated c) k i) (pair (state_at c (2 ^ c.log_size)) (state_next (conjugated c) g k h i)))
+      (λ i. Ok (Some (state_index (conjugated c) k i), pair (state_at c (2 ^ c.log_size)) (state_next (conjugated c) g k h i)))
 
-  last_step : domain_next_answer (second_at (2 ^ c.log_size)) ≡ D.Done (second_at (2 ^ c.log_size))
-  unfolding domain_next_answer conjugated
+  last_step : domain_next_answer (second_at (2 ^ c.log_size)) ≡ Ok (None, second_at (2 ^ c.log_size))
+  unfolding conjugated
   last_step =
-      hold_passes (check_both (second_at (2 ^ c.log_size))) D.Refused _ (both_hold (2 ^ c.log_size) (2 ^ c.log_size))
+      hold_passes (check_both (second_at (2 ^ c.log_size))) _ (both_hold (2 ^ c.log_size) (2 ^ c.log_size))
       ∙ rw (none_left c f, none_left (conjugated c) g)
 
   first_move : (k : ℕ) → k < 2 ^ c.log_size → move (first_at k) ≡ first_at (suc k)
@@ -228,9 +225,9 @@ module _ (c : Coset) (f : Fits c) where
   pub domain_walk : DomainWalk c
   domain_walk = record {
     first_half = λ k h. ap domain_next_answer (first_steps k (omega arith)) ∙ first_step k h
-        ∙ ap (D.Next (of_index (index_at c k))) (sym (first_steps (suc k) h));
+        ∙ ap (handed (Some (of_index (index_at c k)))) (sym (first_steps (suc k) h));
     second_half = λ k h. ap domain_next_answer (second_steps k (omega arith)) ∙ second_step k h
-        ∙ ap (D.Next (of_index (index_at (conjugated c) k)))
+        ∙ ap (handed (Some (of_index (index_at (conjugated c) k))))
         (sym (ap (λ (t : ℕ). domain_steps t (domain_iterator_of c)) (sym (N.add-suc (2 ^ c.log_size) k)) ∙ second_steps (suc k) h));
-    done = λ k h. ap domain_next_answer (all_steps k h) ∙ last_step ∙ ap D.Done (sym (all_steps (suc k) (omega arith)));
+    done = λ k h. ap domain_next_answer (all_steps k h) ∙ last_step ∙ ap (handed None) (sym (all_steps (suc k) (omega arith)));
   }

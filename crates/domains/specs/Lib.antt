@@ -5,6 +5,7 @@ pub mod Coset
 pub mod Iterator
 pub mod Domain
 pub mod Canonic
+pub mod Checked
 -- laws
 pub mod RecordLaws
 pub mod CosetLaws

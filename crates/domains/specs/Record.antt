@@ -4,6 +4,7 @@ use Rattle.std.specs.Prelude.{◌≤◌, ◌≡◌, Bool, ◌&&◌, ◌++◌, le
 use Rattle.fields.specs.Check.{Checks, need}
 use Rattle.fields.specs.LogSize.{is_log_size}
 use Rattle.fields.specs.declared.refusal.Refusal.TheVariants.{LogSize, Contradiction}
+use Rattle.fields.specs.declared.m31.M31.{M31}
 use Rattle.circle.specs.Point.{Reduced, point_of, of_point}
 use Rattle.circle.specs.Point as P
 use Rattle.circle.specs.Index.{IsIndex, in_range, index_point}
@@ -25,11 +26,11 @@ abbrev pub words : Coset → Checks
 words c = P.words c.initial ++ P.words c.step
 
 -- whether both words are equal
-abbrev pub same_point : CirclePoint → CirclePoint → Bool
+abbrev pub same_point : CirclePoint M31 → CirclePoint M31 → Bool
 same_point p q = eqb p.x.0 q.x.0 && eqb p.y.0 q.y.0
 
 -- p is the point of index k, else number 14
-abbrev pub point_of_index : CirclePoint → CirclePointIndex → Checks
+abbrev pub point_of_index : CirclePoint M31 → CirclePointIndex → Checks
 point_of_index p k = need (same_point p (of_point (index_point k.0))) Contradiction
 
 -- each point is that of its index
@@ -49,11 +50,11 @@ unfoldable pub check_canonic : CanonicCoset → Checks
 check_canonic c = need (is_log_size c.coset.log_size) LogSize ++ indices_and_points c.coset
 
 -- two cosets: the first wholly before the second
-unfoldable pub check_two : Coset → Coset → Checks
+abbrev pub check_two : Coset → Coset → Checks
 check_two c d = check c ++ check d
 
 -- a coset and an index: the coset wholly before the index
-unfoldable pub check_with_index : Coset → CirclePointIndex → Checks
+abbrev pub check_with_index : Coset → CirclePointIndex → Checks
 check_with_index c k = check c ++ in_range k
 
 -- what a record has that passes its checks

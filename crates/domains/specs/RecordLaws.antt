@@ -1,19 +1,21 @@
 -- A record passes its checks exactly where it fits.
-use Rattle.std.specs.Prelude.{ℕ, ◌≤◌, ◌≡◌, refl, true, ◌++◌, ltb, eqb}
-use Rattle.std.proofs.Common.{sym, ap, arith, leb-true, eqb-true, le-leb, lt-ltb, eq-eqb}
+use Rattle.std.specs.Prelude.{ℕ, ◌≤◌, ◌≡◌, true, ◌++◌, ltb, eqb}
+use Rattle.std.proofs.Common.{ap, arith, leb-true, ltb-true, eqb-true, le-leb, lt-ltb, eq-eqb}
 use Rattle.std.proofs.Math.Bool.{and-eq-true_iff}
-use Rattle.algebra.specs.M31 as M31
+use Rattle.algebra.specs.M31.{P}
 use Rattle.fields.specs.Check.{need}
 use Rattle.fields.specs.CheckLaws.{Hold, hold_both, hold_split}
 use Rattle.fields.specs.LogSize.{is_log_size}
 use Rattle.fields.specs.LogSizeLaws.{log_size_passes, log_size_fits_lem}
 use Rattle.fields.specs.declared.refusal.Refusal.TheVariants.{LogSize}
-use Rattle.circle.specs.Point.{Reduced, reduced, point_of, of_point}
-use Rattle.circle.specs.Point as P
-use Rattle.circle.specs.AnswerLaws.{x_below, y_below, index_fits, index_passes}
+use Rattle.fields.specs.M31.{m31_field}
+use Rattle.fields.specs.declared.m31.M31.{M31}
+use Rattle.circle.specs.CirclePoint.{reduced}
+use Rattle.circle.specs.Point.{Reduced, point_of, of_point}
+use Rattle.circle.specs.Point as C
 use Rattle.circle.specs.declared.point.CirclePoint.{CirclePoint}
 use Rattle.circle.specs.declared.index.CirclePointIndex.{CirclePointIndex}
-use Rattle.circle.specs.Index.{IsIndex, in_range, index_point}
+use Rattle.circle.specs.Index.{IsIndex, is_index, in_range, index_point}
 use Rattle.domains.specs.declared.coset.Coset.{Coset}
 use Rattle.domains.specs.declared.canonic.CanonicCoset.{CanonicCoset}
 use Rattle.domains.specs.declared.iterator.CosetIterator.{CosetIterator}
@@ -23,11 +25,14 @@ use Rattle.domains.specs.Iterator as T
 
 -- ---- records that fit pass
 
-point_passes : (p : CirclePoint) → Reduced p → reduced p ≡ true
-point_passes p h = (and-eq-true_iff (ltb p.x.0 M31.P) (ltb p.y.0 M31.P)).1
-    (lt-ltb p.x.0 M31.P h.0, lt-ltb p.y.0 M31.P h.1)
+pub index_passes : (k : CirclePointIndex) → IsIndex k → is_index k ≡ true
+index_passes k h = lt-ltb k.0 _ h
 
-agreeing_passes : (p : CirclePoint) (k : CirclePointIndex) → point_of p ≡ index_point k.0
+point_passes : (p : CirclePoint M31) → Reduced p → reduced m31_field p ≡ true
+point_passes p h = (and-eq-true_iff (ltb p.x.0 P) (ltb p.y.0 P)).1
+    (lt-ltb p.x.0 P h.0, lt-ltb p.y.0 P h.1)
+
+agreeing_passes : (p : CirclePoint M31) (k : CirclePointIndex) → point_of p ≡ index_point k.0
     → same_point p (of_point (index_point k.0)) ≡ true
 agreeing_passes p k e = (and-eq-true_iff (eqb p.x.0 (index_point k.0).0) (eqb p.y.0 (index_point k.0).1)).1
     (eq-eqb _ _ (ap (λ (t : ℕ × ℕ). t.0) e), eq-eqb _ _ (ap (λ (t : ℕ × ℕ). t.1) e))
@@ -43,7 +48,7 @@ module _ (c : Coset) (f : Fits c) where
 
   words_hold : Hold (words c)
   words_hold =
-      hold_both (P.words c.initial) (P.words c.step)
+      hold_both (C.words c.initial) (C.words c.step)
       (point_passes c.initial f.initial_reduced, tt) (point_passes c.step f.step_reduced, tt)
 
   points_hold : Hold (points c)
@@ -67,20 +72,20 @@ canonic_hold c f =
 
 -- two records that fit
 pub two_hold : (c d : Coset) → Fits c → Fits d → Hold (check_two c d)
-unfolding check_two
 two_hold c d f g = hold_both (check c) (check d) (fits_hold c f) (fits_hold d g)
 
 pub with_index_hold : (c : Coset) (k : CirclePointIndex) → Fits c → IsIndex k → Hold (check_with_index c k)
-unfolding check_with_index
 with_index_hold c k f h = hold_both (check c) (in_range k) (fits_hold c f) (index_passes k h, tt)
 
 -- ---- records that pass fit
 
 pub hold_index : (k : CirclePointIndex) → Hold (in_range k) → IsIndex k
-hold_index k h = index_fits k true (sym h.0) refl
+hold_index k h = ltb-true k.0 _ h.0
 
-point_fits : (p : CirclePoint) → reduced p ≡ true → Reduced p
-point_fits p e = (x_below p true (sym e) refl, y_below p true (sym e) refl)
+point_fits : (p : CirclePoint M31) → reduced m31_field p ≡ true → Reduced p
+point_fits p e =
+    let both = (and-eq-true_iff (ltb p.x.0 P) (ltb p.y.0 P)).0 e in
+    (ltb-true p.x.0 P both.0, ltb-true p.y.0 P both.1)
 
 pub indices_fit : (c : Coset) → Hold (indices c) → (IsIndex c.initial_index) × (IsIndex c.step_size)
 indices_fit c h =
@@ -89,15 +94,16 @@ indices_fit c h =
 
 words_fit : (c : Coset) → Hold (words c) → (Reduced c.initial) × (Reduced c.step)
 words_fit c h =
-    let both = hold_split (P.words c.initial) (P.words c.step) h in
+    let both = hold_split (C.words c.initial) (C.words c.step) h in
     (point_fits c.initial both.0.0, point_fits c.step both.1.0)
 
-passing_agrees : (p : CirclePoint) (k : CirclePointIndex) → same_point p (of_point (index_point k.0)) ≡ true → point_of p ≡ index_point k.0
+passing_agrees : (p : CirclePoint M31) (k : CirclePointIndex) → same_point p (of_point (index_point k.0)) ≡ true
+    → point_of p ≡ index_point k.0
 passing_agrees p k h =
     let both = (and-eq-true_iff (eqb p.x.0 (index_point k.0).0) (eqb p.y.0 (index_point k.0).1)).0 h in
     λ i. (eqb-true p.x.0 (index_point k.0).0 both.0 i, eqb-true p.y.0 (index_point k.0).1 both.1 i)
 
-all_fit : (c : Coset) → c.log_size ≤ 31 → Hold (indices_and_points c) → Fits c
+pub all_fit : (c : Coset) → c.log_size ≤ 31 → Hold (indices_and_points c) → Fits c
 all_fit c h rest =
     let first = hold_split (indices c) (words c ++ points c) rest in
     let second = hold_split (words c) (points c) first.1 in
@@ -123,11 +129,9 @@ hold_fits c h =
 
 -- the second of two
 pub hold_second : (c d : Coset) → Hold (check_two c d) → Fits d
-unfolding check_two
 hold_second c d h = hold_fits d (hold_split (check c) (check d) h).1
 
 pub hold_with_index : (c : Coset) (k : CirclePointIndex) → Hold (check_with_index c k) → (Fits c) × (IsIndex k)
-unfolding check_with_index
 hold_with_index c k h =
     let both = hold_split (check c) (in_range k) h in
     (hold_fits c both.0, hold_index k both.1)
@@ -141,7 +145,6 @@ hold_canonic c h =
     record { coset = all_fit c.coset (omega arith) both.1; least = range.0; most = range.1 }
 
 pub hold_iterator : (it : CosetIterator) → Hold (T.check it) → (IsIndex it.cur) × (IsIndex it.step)
-unfolding T.check
 hold_iterator it h =
     let both = hold_split (in_range it.cur) (in_range it.step) h in
     (hold_index it.cur both.0, hold_index it.step both.1)

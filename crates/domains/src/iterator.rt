@@ -1,131 +1,102 @@
 // Iterators over the indices of a coset and of a circle domain (stwo's CosetIterator<CirclePointIndex> and
-// CircleDomainIndexIterator), by value: a step hands back the iterator after it.
-ghost use Rattle.std.specs.Prelude.{◌≡◌};
+// CircleDomainIndexIterator). They are passed by value, as they cross the C interface, and a step can be refused: so `next`
+// hands back the iterator after it, which Rust's Iterator doesn't.
+ghost use Rattle.std.specs.Prelude.{◌≡◌, ◌≤◌};
 ghost use Rattle.fields.specs.Check.{outcome};
-ghost use Rattle.domains.specs.Iterator.{check, check_both, CanAdvance, advanced, next_answer, domain_next_answer};
+ghost use Rattle.domains.specs.Coset.{iterator_of};
+ghost use Rattle.domains.specs.Iterator.{check, stepped, next_answer, domain_next_answer};
 
-use crate::record::in_range;
+use crate::coset::Coset;
+use crate::coset::checked::CheckedCoset;
 use circle::index::{CirclePointIndex, inner as index};
-use fields::check::Check;
+use fields::log_size::inner::two_to;
 use fields::refusal::Refusal;
 
-#[derive(Clone, Copy)]
+#[derive(Clone, Copy, Debug, PartialEq, Eq)]
 pub struct CosetIterator {
     pub cur: CirclePointIndex,
     pub step: CirclePointIndex,
     pub remaining: u64,
 }
 
-#[derive(Clone, Copy)]
-pub enum CosetIteratorAnswer {
-    Value(CosetIterator),
-    Refused(Refusal),
-}
+impl From<CheckedCoset> for CosetIterator {
+    ghost from_gives = { λ c it. it ≡ iterator_of c.coset };
 
-#[derive(Clone, Copy)]
-pub enum CosetStep {
-    // the index, and the iterator after it
-    Next(CirclePointIndex, CosetIterator),
-    // none remain; the iterator as it was
-    Done(CosetIterator),
-    Refused(Refusal),
-}
-
-fn check(it: CosetIterator) -> Check
-    ensures { result ≡ outcome (check it) }
-{
-    in_range(it.cur).then(in_range(it.step))
-}
-
-fn advance(it: CosetIterator) -> CosetIterator
-    requires { CanAdvance it }
-    ensures { result ≡ advanced it }
-{
-    let step = it.step;
-    let cur = index::add(it.cur, step);
-    CosetIterator {
-        cur,
-        step,
-        remaining: it.remaining - 1,
+    fn from(c: CheckedCoset) -> CosetIterator {
+        CosetIterator::of(c.coset)
     }
 }
 
 impl CosetIterator {
-    pub fn next(self) -> CosetStep
+    // Over the indices of a coset of at most 2^31 points.
+    #[tactic(auto, unfolding(crate::specs::Coset::iterator_of))]
+    pub fn of(c: Coset) -> CosetIterator
+        requires { c.log_size ≤ 31 }
+        ensures { result ≡ iterator_of c }
+    {
+        CosetIterator {
+            cur: c.initial_index,
+            step: c.step_size,
+            remaining: two_to(c.log_size),
+        }
+    }
+
+    fn check(self) -> Result<(), Refusal>
+        ensures { result ≡ outcome (check self) }
+    {
+        self.cur.check()?;
+        self.step.check()
+    }
+
+    // The index, if any remain, and the iterator after it.
+    #[tactic(auto, unfolding(crate::specs::Iterator::advanced))]
+    fn advance(self) -> (Option<CirclePointIndex>, CosetIterator)
+        ensures { result ≡ stepped self }
+    {
+        if self.remaining == 0 {
+            return (None, self);
+        }
+        let cur = index::add(self.cur, self.step);
+        let after = CosetIterator {
+            cur,
+            step: self.step,
+            remaining: self.remaining - 1,
+        };
+        (Some(self.cur), after)
+    }
+
+    pub fn next(self) -> Result<(Option<CirclePointIndex>, CosetIterator), Refusal>
         ensures { result ≡ next_answer self }
     {
-        let indices = check(self);
-        if let Check::Refused(why) = indices {
-            return CosetStep::Refused(why);
-        }
-        if self.remaining == 0 {
-            return CosetStep::Done(self);
-        }
-        let cur = self.cur;
-        CosetStep::Next(cur, advance(self))
+        self.check()?;
+        Ok(self.advance())
     }
 }
 
 // The half coset's iterator, then its conjugate's.
-#[derive(Clone, Copy)]
+#[derive(Clone, Copy, Debug, PartialEq, Eq)]
 pub struct CircleDomainIndexIterator {
     pub first: CosetIterator,
     pub second: CosetIterator,
 }
 
-#[derive(Clone, Copy)]
-pub enum CircleDomainIndexIteratorAnswer {
-    Value(CircleDomainIndexIterator),
-    Refused(Refusal),
-}
-
-#[derive(Clone, Copy)]
-pub enum CircleDomainStep {
-    // the index, and the iterator after it
-    Next(CirclePointIndex, CircleDomainIndexIterator),
-    // none remain; the iterator as it was
-    Done(CircleDomainIndexIterator),
-    Refused(Refusal),
-}
-
-fn check_both(it: CircleDomainIndexIterator) -> Check
-    ensures { result ≡ outcome (check_both it) }
-{
-    check(it.first).then(check(it.second))
-}
-
 impl CircleDomainIndexIterator {
-    pub fn next(self) -> CircleDomainStep
+    pub fn next(self) -> Result<(Option<CirclePointIndex>, CircleDomainIndexIterator), Refusal>
         ensures { result ≡ domain_next_answer self }
     {
-        let indices = check_both(self);
-        if let Check::Refused(why) = indices {
-            return CircleDomainStep::Refused(why);
-        }
-        let first = self.first;
-        let second = self.second;
-        if 0 < first.remaining {
-            let cur = first.cur;
-            let after = advance(first);
-            return CircleDomainStep::Next(
-                cur,
-                CircleDomainIndexIterator {
-                    first: after,
-                    second,
-                },
-            );
-        }
-        if 0 < second.remaining {
-            let cur = second.cur;
-            let after = advance(second);
-            return CircleDomainStep::Next(
-                cur,
+        self.first.check()?;
+        self.second.check()?;
+        let (index, first) = self.first.advance();
+        if index.is_some() {
+            return Ok((
+                index,
                 CircleDomainIndexIterator {
                     first,
-                    second: after,
+                    second: self.second,
                 },
-            );
+            ));
         }
-        CircleDomainStep::Done(self)
+        let (index, second) = self.second.advance();
+        Ok((index, CircleDomainIndexIterator { first, second }))
     }
 }

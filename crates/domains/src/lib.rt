@@ -1,5 +1,5 @@
 // Cosets, canonic cosets and circle domains (stwo's circle.rs from Coset on, canonic.rs and domain.rs).
-#![tactic(auto)]
+#![tactic(auto, using(crate::proofs::Checks::records))]
 
 pub mod canonic;
 pub mod coset;

@@ -1,100 +1,95 @@
 // What a call checks of a coset record: its log size, its indices and the words of its points, then each point against its index.
 ghost use Rattle.std.specs.Prelude.{◌≡◌};
-ghost use Rattle.fields.specs.Check.{outcome};
-ghost use Rattle.circle.specs.Index.{IsIndex, in_range};
-ghost use Rattle.circle.specs.Point as P;
-ghost use Rattle.domains.specs.Record.{log_size, indices, words, point_of_index, points, indices_and_points};
-ghost use Rattle.domains.specs.Record.{check, check_canonic, check_two, check_with_index};
+ghost use Rattle.fields.specs.Check.{Checks, outcome};
+ghost use Rattle.domains.specs.declared.coset.Coset.{Coset};
+ghost use Rattle.domains.specs.Record.{indices_and_points, check, check_canonic};
+ghost use Rattle.domains.specs.Checked.{Checked};
+ghost use Rattle.domains.specs.Coset.{size_by, log_size_by, index_at_by, at_by};
 
 use crate::canonic::CanonicCoset;
 use crate::coset::Coset;
-use crate::coset::inner::same_point;
+use crate::coset::checked::CheckedCoset;
 use circle::index::CirclePointIndex;
-use circle::index::inner::{is_index, to_point};
-use circle::point::inner::is_reduced;
+use circle::index::inner::to_point;
 use circle::point::{CirclePoint, M31_CIRCLE_LOG_ORDER};
-use fields::check::{Check, need};
+use fields::check::need;
 use fields::log_size::is_log_size;
+use fields::m31::M31;
 use fields::refusal::Refusal;
 
-fn log_size(c: Coset) -> Check
-    ensures { result ≡ outcome (log_size c) }
-{
-    need(c.log_size <= M31_CIRCLE_LOG_ORDER, Refusal::LogSize)
-}
-
-pub fn in_range(k: CirclePointIndex) -> Check
-    ensures { result ≡ outcome (in_range k) }
-{
-    need(is_index(k), Refusal::Index)
-}
-
-fn indices(c: Coset) -> Check
-    ensures { result ≡ outcome (indices c) }
-{
-    in_range(c.initial_index).then(in_range(c.step_size))
-}
-
-fn point(p: CirclePoint) -> Check
-    ensures { result ≡ outcome (P.words p) }
-{
-    need(is_reduced(p), Refusal::Word(0))
-}
-
-fn words(c: Coset) -> Check
-    ensures { result ≡ outcome (words c) }
-{
-    point(c.initial).then(point(c.step))
-}
-
-fn point_of_index(p: CirclePoint, k: CirclePointIndex) -> Check
-    requires { IsIndex k }
-    ensures { result ≡ outcome (point_of_index p k) }
-{
-    need(same_point(p, to_point(k)), Refusal::Contradiction)
-}
-
-fn points(c: Coset) -> Check
-    requires { (IsIndex c.initial_index) × (IsIndex c.step_size) }
-    ensures { result ≡ outcome (points c) }
-{
-    let initial = point_of_index(c.initial, c.initial_index);
-    initial.then(point_of_index(c.step, c.step_size))
-}
-
 // A point is looked up only where its index is known to be in range.
-fn indices_and_points(c: Coset) -> Check
+fn check_indices_and_points(c: Coset) -> Result<(), Refusal>
     ensures { result ≡ outcome (indices_and_points c) }
 {
-    let each = indices(c).then(words(c));
-    if let Check::Refused(why) = each {
-        return Check::Refused(why);
+    c.initial_index.check()?;
+    c.step_size.check()?;
+    c.initial.check()?;
+    c.step.check()?;
+    need(
+        c.initial == to_point(c.initial_index),
+        Refusal::Contradiction,
+    )?;
+    need(c.step == to_point(c.step_size), Refusal::Contradiction)
+}
+
+// What a coset and a canonic coset have in common: a coset, and the checks of its record.
+pub trait CosetRecord: Copy {
+    ghost coset: { Self → Coset };
+
+    // the tests of the whole record, in their order
+    ghost checks: { Self → Checks };
+
+    fn check(self) -> Result<CheckedCoset, Refusal>
+        ensures { Checked (checks self) (coset self) result };
+
+    final fn size(self) -> Result<u64, Refusal>
+        ensures { result ≡ size_by (checks self) (coset self) }
+    {
+        Ok(self.check()?.size())
     }
-    points(c)
+
+    final fn log_size(self) -> Result<u32, Refusal>
+        ensures { result ≡ log_size_by (checks self) (coset self) }
+    {
+        Ok(self.check()?.coset.log_size)
+    }
+
+    // Any position: the coset runs round.
+    final fn index_at(self, i: u64) -> Result<CirclePointIndex, Refusal>
+        ensures { result ≡ index_at_by (checks self) (coset self) i }
+    {
+        Ok(self.check()?.index_at(i))
+    }
+
+    final fn at(self, i: u64) -> Result<CirclePoint<M31>, Refusal>
+        ensures { result ≡ at_by (checks self) (coset self) i }
+    {
+        Ok(self.check()?.at(i))
+    }
 }
 
-pub fn check(c: Coset) -> Check
-    ensures { result ≡ outcome (check c) }
-{
-    log_size(c).then(indices_and_points(c))
+#[tactic(auto, using(crate::proofs::Checks::records), unfolding(crate::specs::Record::check))]
+impl CosetRecord for Coset {
+    ghost coset = { λ c. c };
+
+    ghost checks = { check };
+
+    fn check(self) -> Result<CheckedCoset, Refusal> {
+        need(self.log_size <= M31_CIRCLE_LOG_ORDER, Refusal::LogSize)?;
+        check_indices_and_points(self)?;
+        Ok(CheckedCoset { coset: self })
+    }
 }
 
-pub fn check_canonic(c: CanonicCoset) -> Check
-    ensures { result ≡ outcome (check_canonic c) }
-{
-    let coset = c.coset;
-    let size = need(is_log_size(coset.log_size), Refusal::LogSize);
-    size.then(indices_and_points(coset))
-}
+#[tactic(auto, using(crate::proofs::Checks::records), unfolding(crate::specs::Record::check_canonic))]
+impl CosetRecord for CanonicCoset {
+    ghost coset = { λ c. c.coset };
 
-pub fn check_two(c: Coset, d: Coset) -> Check
-    ensures { result ≡ outcome (check_two c d) }
-{
-    check(c).then(check(d))
-}
+    ghost checks = { check_canonic };
 
-pub fn check_with_index(c: Coset, k: CirclePointIndex) -> Check
-    ensures { result ≡ outcome (check_with_index c k) }
-{
-    check(c).then(in_range(k))
+    fn check(self) -> Result<CheckedCoset, Refusal> {
+        need(is_log_size(self.coset.log_size), Refusal::LogSize)?;
+        check_indices_and_points(self.coset)?;
+        Ok(CheckedCoset { coset: self.coset })
+    }
 }

@@ -2,4 +2,3 @@ pub mod Reductions
 pub mod Powers
 pub mod ProductSums
 pub mod PowerLoop
-pub mod TwoWords

@@ -3,7 +3,7 @@ use Rattle.std.proofs.Common.{◌≡◌, ℕ, zero, suc, ◌+◌, ◌-◌, ◌*�
 use native.Mathlib.Nat as N
 use native.Mathlib.Decide.{dec_lt}
 use Rattle.algebra.specs.M31.{P, P_pos}
-use Rattle.fields.specs.Words.{neg_p, sub_p}
+use Rattle.fields.specs.Words.{sub_p}
 
 -- a number below 2P, its bit 31 added to the others
 pub fold : (s : ℕ) → s < 2 * P → (s + (s + 1) / 2147483648) % 2147483648 ≡ s % P
@@ -114,7 +114,3 @@ unwrap_partly a b d ha hb hd e = elim (dec_lt a P) [ yes l ↦ below l | no g �
         let f : d ≡ P - b = omega arith in
         let r : (d - d / 2147483648) % 2147483648 ≡ d = small d (omega arith) in
         (ap (λ (t : ℕ). t % P) (r ∙ f) ∙ sym (from_p b hb) ∙ ap (λ (t : ℕ). sub_p t b) (sym q), omega arith, λ h. absurd (omega arith))
-
--- 2P - (n + 1) is the negative of n + 1
-pub two_P_less : (n : ℕ) → n < 2147483648 → (4294967293 - n) % P ≡ neg_p (suc n)
-two_P_less n h = omega arith

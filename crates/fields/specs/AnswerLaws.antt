@@ -1,5 +1,5 @@
--- How a need at a return is closed where the contract is an answer by cases: each test is passed, or refuses.
-use Rattle.std.specs.Prelude.{◌≡◌, ℕ, ◌<◌, ◌≤◌, Bool, true, false, cond, not, ◌&&◌, ◌==◌, ◌≢◌, nat_le, nat_lt}
+-- Answers by cases: what an answer is where a test is passed and where it refuses, and what is below P where words were tested.
+use Rattle.std.specs.Prelude.{◌≡◌, ℕ, ◌<◌, ◌≤◌, Bool, true, false, cond, not, ◌&&◌, ◌==◌, ◌≢◌, nat_le, nat_lt, Result, Ok}
 use Rattle.std.proofs.Common.{sym, ◌∙◌, ap, le-leb, lt-ltb, le-ltb, eq-eqb, ne_eqb, ltb-true}
 use Rattle.std.proofs.Math.Bool.{and-eq-true_iff}
 use Rattle.std.proofs.lemmas.Bool.{lt-leb, not-true, not-false}
@@ -9,11 +9,10 @@ use Rattle.fields.specs.CM31.{pair_of, of_pair}
 use Rattle.fields.specs.CM31 as C
 use Rattle.fields.specs.QM31.{pairs_of, of_pairs}
 use Rattle.fields.specs.QM31 as Q
-use Rattle.fields.specs.declared.m31.M31Answer.TheVariants.{Value}
+use Rattle.fields.specs.declared.m31.M31.{M31}
 use Rattle.fields.specs.declared.cm31.CM31.{CM31}
-use Rattle.fields.specs.declared.cm31.CM31Answer.TheVariants as CA
 use Rattle.fields.specs.declared.qm31.QM31.{QM31}
-use Rattle.fields.specs.declared.qm31.QM31Answer.TheVariants as QA
+use Rattle.fields.specs.declared.refusal.Refusal.{Refusal}
 
 -- r is the answer where the test holds, and is what the first case says
 pub at_leb : {A : Type 0} (r x y : A) (m n : ℕ) → m ≤ n → r ≡ x → r ≡ cond (nat_le m n) x y
@@ -74,8 +73,8 @@ pub all_three : (t u v : Bool) → t ≡ true → u ≡ true → v ≡ (t && u &
 all_three t u v e f = rw (e, f)
 
 -- an accepted word
-pub word_value : (w v : ℕ) → w ≡ v → Value (of_word w) ≡ Value (of_word v)
-word_value w v e = ap (λ (t : ℕ). Value (of_word t)) e
+pub word_value : (w v : ℕ) → w ≡ v → ◌≡◌ {A = Result M31 Refusal} (Ok (of_word w)) (Ok (of_word v))
+word_value w v e = ap (λ (t : ℕ). Ok (of_word t)) e
 
 pub ruleset answers = (
   at_leb,
@@ -105,8 +104,8 @@ first_below a u e h = (both_below a.0.0 a.1.0 (sym e ∙ not-false u h)).0
 pub second_below : (a : CM31) (u : Bool) → u ≡ C.reduced a → not u ≡ false → a.1.0 < P
 second_below a u e h = (both_below a.0.0 a.1.0 (sym e ∙ not-false u h)).1
 
-pub pair-value : (a : CM31) (p : ℕ × ℕ) → pair_of a ≡ p → CA.Value a ≡ CA.Value (of_pair p)
-pair-value a p e = ap (λ (t : ℕ × ℕ). CA.Value (of_pair t)) e
+pub pair-value : (a : CM31) (p : ℕ × ℕ) → pair_of a ≡ p → ◌≡◌ {A = Result CM31 Refusal} (Ok a) (Ok (of_pair p))
+pair-value a p e = ap (λ (t : ℕ × ℕ). Ok (of_pair t)) e
 
 pub ruleset complexes = (first_below, second_below, pair-value)
 
@@ -128,7 +127,7 @@ word2_below a u e h = (words_below a u e h).1.0
 pub word3_below : (a : QM31) (u : Bool) → u ≡ Q.reduced a → not u ≡ false → a.1.1.0 < P
 word3_below a u e h = (words_below a u e h).1.1
 
-pub pairs_value : (a : QM31) (p : (ℕ × ℕ) × (ℕ × ℕ)) → pairs_of a ≡ p → QA.Value a ≡ QA.Value (of_pairs p)
-pairs_value a p e = ap (λ (t : (ℕ × ℕ) × (ℕ × ℕ)). QA.Value (of_pairs t)) e
+pub pairs_value : (a : QM31) (p : (ℕ × ℕ) × (ℕ × ℕ)) → pairs_of a ≡ p → ◌≡◌ {A = Result QM31 Refusal} (Ok a) (Ok (of_pairs p))
+pairs_value a p e = ap (λ (t : (ℕ × ℕ) × (ℕ × ℕ)). Ok (of_pairs t)) e
 
 pub ruleset quartics = (word0_below, word1_below, word2_below, word3_below, first_below, second_below, pairs_value)

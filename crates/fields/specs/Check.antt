@@ -1,9 +1,7 @@
 -- What a call checks before it does anything: tests in the order that docs/CALLS.md tells, each with the refusal that is made where
 -- it is the first to fail. First these and then those is `++`.
-use Rattle.std.specs.Prelude.{Bool, cond, List, [], ◌∷◌}
+use Rattle.std.specs.Prelude.{Bool, cond, List, [], ◌∷◌, Result, Ok, Err}
 use Rattle.fields.specs.declared.refusal.Refusal.{Refusal}
-use Rattle.fields.specs.declared.check.Check.{Check}
-use Rattle.fields.specs.declared.check.Check.TheVariants as C
 
 -- tests in their order, each with its refusal
 abbrev pub Checks : Type 0
@@ -14,10 +12,10 @@ abbrev pub need : Bool → Refusal → Checks
 need holds why = (holds, why) ∷ []
 
 -- the answer of a call: the refusal of the first test that fails, else the value
-abbrev pub checked : {A : Type 0} → Checks → (Refusal → A) → A → A
-checked [] refused value = value
-checked (test ∷ rest) refused value = cond test.0 (checked rest refused value) (refused test.1)
+abbrev pub checked : {A : Type 0} → Checks → A → Result A Refusal
+checked [] value = Ok value
+checked (test ∷ rest) value = cond test.0 (checked rest value) (Err test.1)
 
 -- the checks by themselves
-abbrev pub outcome : Checks → Check
-outcome checks = checked checks C.Refused C.Passed
+abbrev pub outcome : Checks → Result (Unit {0}) Refusal
+outcome checks = checked checks tt

@@ -1,30 +1,34 @@
 -- Laws of checks: one after the other, and what an answer is where they pass and where they refuse.
-use Rattle.std.specs.Prelude.{◌≡◌, Bool, true, false, cond, [], ◌∷◌, ◌++◌, ◌≢◌, refl}
+use Rattle.std.specs.Prelude.{◌≡◌, cond, Bool, true, false, [], ◌∷◌, ◌++◌, Result, Ok, Err, IsErrAnd, refl}
 use Rattle.std.proofs.Common.{sym, ◌∙◌, ap, ap₂}
 use Rattle.fields.specs.Check.{Checks, checked, outcome}
 use Rattle.fields.specs.declared.refusal.Refusal.{Refusal}
-use Rattle.fields.specs.declared.check.Check.{Check}
-use Rattle.fields.specs.declared.check.Check.TheVariants.{Passed, Refused}
 
 -- what the second says where the first is passed, else what the first says
-abbrev pub in_turn : Check → Check → Check
-in_turn Passed next = next
-in_turn (Refused why) next = Refused why
+abbrev pub in_turn : {A : Type 0} → Result (Unit {0}) Refusal → Result A Refusal → Result A Refusal
+in_turn (Ok done) next = next
+in_turn (Err why) next = Err why
 
-pub refused_first : (c next : Check) (why : Refusal) → c ≡ Refused why → Refused why ≡ in_turn c next
+pub refused_first : (c next : Result (Unit {0}) Refusal) (why : Refusal) → c ≡ Err why → Err why ≡ in_turn c next
 refused_first c next why e = rw e
 
-in_turn_cond : (t : Bool) (c d : Check) (why : Refusal) → in_turn (cond t c (Refused why)) d ≡ cond t (in_turn c d) (Refused why)
+in_turn_cond : {A : Type 0} (t : Bool) (c : Result (Unit {0}) Refusal) (d : Result A Refusal) (why : Refusal)
+    → in_turn (cond t c (Err why)) d ≡ cond t (in_turn c d) (Err why)
 in_turn_cond true c d why = refl
 in_turn_cond false c d why = refl
 
+-- an answer after two lists of checks is that after the second, where the first is passed
+checked-append : {A : Type 0} (a b : Checks) (x : A) → checked (a ++ b) x ≡ in_turn (outcome a) (checked b x)
+checked-append [] b x = refl
+checked-append (test ∷ a) b x =
+    ap (λ y. cond test.0 y (Err test.1)) (checked-append a b x) ∙ sym (in_turn_cond test.0 (outcome a) (checked b x) test.1)
+
 -- the checks of two lists in turn are those of both
 pub outcome-append : (a b : Checks) → in_turn (outcome a) (outcome b) ≡ outcome (a ++ b)
-outcome-append [] b = refl
-outcome-append (test ∷ a) b = in_turn_cond test.0 (outcome a) (outcome b) test.1 ∙ rw (outcome-append a b)
+outcome-append a b = sym (checked-append a b tt)
 
 -- r is what two lists of checks said, one after the other
-pub in_turn_lem : (a b : Checks) (c d r : Check) → c ≡ outcome a → d ≡ outcome b → r ≡ in_turn c d → r ≡ outcome (a ++ b)
+pub in_turn_lem : (a b : Checks) (c d r : Result (Unit {0}) Refusal) → c ≡ outcome a → d ≡ outcome b → r ≡ in_turn c d → r ≡ outcome (a ++ b)
 in_turn_lem a b c d r e f g = g ∙ ap₂ in_turn e f ∙ outcome-append a b
 
 -- every test holds
@@ -41,71 +45,80 @@ pub hold_both : (a b : Checks) → Hold a → Hold b → Hold (a ++ b)
 hold_both [] b h k = k
 hold_both (test ∷ a) b h k = (h.0, hold_both a b h.1 k)
 
-pub hold_passes : {A : Type 0} (checks : Checks) (f : Refusal → A) (a : A) → Hold checks → checked checks f a ≡ a
-hold_passes [] f a h = refl
-hold_passes (test ∷ rest) f a h = rw h.0 (hold_passes rest f a h.1)
+pub hold_passes : {A : Type 0} (checks : Checks) (a : A) → Hold checks → checked checks a ≡ Ok a
+hold_passes [] a h = refl
+hold_passes (test ∷ rest) a h = rw h.0 (hold_passes rest a h.1)
 
--- where no refusal is the answer a, a call that answers a has passed every test
-pub accepted_hold : {A : Type 0} (checks : Checks) (f : Refusal → A) (a : A) → ((why : Refusal) → f why ≢ a) → checked checks f a ≡ a
-    → Hold checks
-accepted_hold [] f a n e = tt
-accepted_hold ((true, why) ∷ rest) f a n e = (refl, accepted_hold rest f a n e)
-accepted_hold ((false, why) ∷ rest) f a n e = absurd (n why e)
+-- a call that answers with its value has passed every test
+pub accepted_hold : {A : Type 0} (checks : Checks) (a b : A) → checked checks a ≡ Ok b → Hold checks
+accepted_hold [] a b e = tt
+accepted_hold ((true, why) ∷ rest) a b e = (refl, accepted_hold rest a b e)
+accepted_hold ((false, why) ∷ rest) a b e = (cc, accepted_hold rest a b (cc))
 
 -- what every refusal has, and the value where every test holds, the answer has
-pub checked_has : {A : Type 0} (Has : A → Type 0) (checks : Checks) (f : Refusal → A) (a : A) → ((why : Refusal) → Has (f why))
-    → (Hold checks → Has a)
-    → Has (checked checks f a)
-checked_has Has [] f a r v = v tt
-checked_has Has ((true, why) ∷ rest) f a r v = checked_has Has rest f a r (λ h. v (refl, h))
-checked_has Has ((false, why) ∷ rest) f a r v = r why
+pub checked_has : {A : Type 0} (Has : Result A Refusal → Type 0) (checks : Checks) (a : A) → ((why : Refusal) → Has (Err why))
+    → (Hold checks → Has (Ok a))
+    → Has (checked checks a)
+checked_has Has [] a r v = v tt
+checked_has Has ((true, why) ∷ rest) a r v = checked_has Has rest a r (λ h. v (refl, h))
+checked_has Has ((false, why) ∷ rest) a r v = r why
 
 -- values that are equal where every test holds make one answer
-pub checked-equal : {A : Type 0} (checks : Checks) (f : Refusal → A) (a b : A) → (Hold checks → a ≡ b)
-    → checked checks f a ≡ checked checks f b
-checked-equal [] f a b e = e tt
-checked-equal ((true, why) ∷ rest) f a b e = checked-equal rest f a b (λ h. e (refl, h))
-checked-equal ((false, why) ∷ rest) f a b e = refl
+pub checked-equal : {A : Type 0} (checks : Checks) (a b : A) → (Hold checks → a ≡ b) → checked checks a ≡ checked checks b
+checked-equal [] a b e = ap Ok (e tt)
+checked-equal ((true, why) ∷ rest) a b e = checked-equal rest a b (λ h. e (refl, h))
+checked-equal ((false, why) ∷ rest) a b e = refl
+
+passed_hold : (checks : Checks) (u : Unit {0}) → outcome checks ≡ Ok u → Hold checks
+passed_hold [] u e = tt
+passed_hold ((true, why) ∷ rest) u e = (refl, passed_hold rest u e)
+passed_hold ((false, why) ∷ rest) u e = (cc, passed_hold rest u (cc))
 
 -- r is what the checks said
-pub passed_hold : (checks : Checks) (r : Check) → r ≡ outcome checks → r ≡ Passed → Hold checks
-passed_hold checks r e h = hold checks (sym e ∙ h)
-  where
-    hold : (checks : Checks) → outcome checks ≡ Passed → Hold checks
-    hold [] q = tt
-    hold ((true, why) ∷ rest) q = (refl, hold rest q)
-    hold ((false, why) ∷ rest) q = (cc, hold rest (cc))
+pub hold_at : (checks : Checks) (r : Result (Unit {0}) Refusal) (u : Unit {0}) → r ≡ outcome checks → r ≡ Ok u → Hold checks
+hold_at checks r u e h = passed_hold checks u (sym e ∙ h)
 
-pub at_refused : {A : Type 0} (checks : Checks) (r : Check) (why : Refusal) (f : Refusal → A) (a : A) → r ≡ outcome checks → r ≡ Refused why
-    → f why ≡ checked checks f a
-at_refused checks r why f a e h = refused checks (sym e ∙ h)
+pub at_refused : {A : Type 0} (checks : Checks) (r : Result (Unit {0}) Refusal) (why : Refusal) (a : A) → r ≡ outcome checks → r ≡ Err why
+    → Err why ≡ checked checks a
+at_refused checks r why a e h = refused checks (sym e ∙ h)
   where
-    refused : (checks : Checks) → outcome checks ≡ Refused why → f why ≡ checked checks f a
+    refused : (checks : Checks) → outcome checks ≡ Err why → Err why ≡ checked checks a
     refused [] q = cc
     refused ((true, other) ∷ rest) q = refused rest q
     refused ((false, other) ∷ rest) q = cc
 
-pub at_passed : {A : Type 0} (checks : Checks) (r : Check) (f : Refusal → A) (x a : A) → r ≡ outcome checks → r ≡ Passed → x ≡ a
-    → x ≡ checked checks f a
-at_passed checks r f x a e h g = g ∙ passed checks (sym e ∙ h)
-  where
-    passed : (checks : Checks) → outcome checks ≡ Passed → a ≡ checked checks f a
-    passed [] q = refl
-    passed ((true, other) ∷ rest) q = passed rest q
-    passed ((false, other) ∷ rest) q = cc
-
--- ---- two lists of checks
-
-checked-append : {A : Type 0} (a b : Checks) (f : Refusal → A) (x : A) → checked (a ++ b) f x ≡ checked a f (checked b f x)
-checked-append [] b f x = refl
-checked-append (test ∷ a) b f x = ap (λ y. cond test.0 y (f test.1)) (checked-append a b f x)
+pub at_passed : {A : Type 0} (checks : Checks) (r : Result (Unit {0}) Refusal) (u : Unit {0}) (x a : A) → r ≡ outcome checks → r ≡ Ok u
+    → x ≡ a
+    → Ok x ≡ checked checks a
+at_passed checks r u x a e h g = ap Ok g ∙ sym (hold_passes checks a (hold_at checks r u e h))
 
 -- the first list refuses
-pub at_first : {A : Type 0} (a b : Checks) (r : Check) (why : Refusal) (f : Refusal → A) (x : A) → r ≡ outcome a → r ≡ Refused why
-    → f why ≡ checked (a ++ b) f x
-at_first a b r why f x e h = at_refused a r why f (checked b f x) e h ∙ sym (checked-append a b f x)
+pub at_first : {A : Type 0} (a b : Checks) (r : Result (Unit {0}) Refusal) (why : Refusal) (x : A) → r ≡ outcome a → r ≡ Err why
+    → Err why ≡ checked (a ++ b) x
+at_first a b r why x e h = refused a (sym e ∙ h)
+  where
+    refused : (checks : Checks) → outcome checks ≡ Err why → Err why ≡ checked (checks ++ b) x
+    refused [] q = cc
+    refused ((true, other) ∷ rest) q = refused rest q
+    refused ((false, other) ∷ rest) q = cc
 
 -- the first list is passed
-pub past_first : {A : Type 0} (a b : Checks) (r : Check) (f : Refusal → A) (x y : A) → r ≡ outcome a → r ≡ Passed → x ≡ checked b f y
-    → x ≡ checked (a ++ b) f y
-past_first a b r f x y e h g = at_passed a r f x (checked b f y) e h g ∙ sym (checked-append a b f y)
+pub past_first : {A : Type 0} (a b : Checks) (r : Result (Unit {0}) Refusal) (u : Unit {0}) (x : Result A Refusal) (y : A) → r ≡ outcome a
+    → r ≡ Ok u → x ≡ checked b y
+    → x ≡ checked (a ++ b) y
+past_first a b r u x y e h g = g ∙ sym (checked-append a b y ∙ ap (λ s. in_turn s (checked b y)) (sym e ∙ h))
+
+-- what a `?` returns, where the checks refused
+pub exit_refused : {A : Type 0} (checks : Checks) (r : Result (Unit {0}) Refusal) (why : Refusal) (a : A) (x : Result A Refusal)
+    → IsErrAnd x (λ other. other ≡ why) → r ≡ outcome checks → r ≡ Err why
+    → x ≡ checked checks a
+exit_refused checks r why a (Ok _) q e h = absurd q
+exit_refused checks r why a (Err other) q e h = ap Err q ∙ at_refused checks r why a e h
+
+pub exit_first : {A : Type 0} (a b : Checks) (r : Result (Unit {0}) Refusal) (why : Refusal) (y : A) (x : Result A Refusal)
+    → IsErrAnd x (λ other. other ≡ why) → r ≡ outcome a → r ≡ Err why
+    → x ≡ checked (a ++ b) y
+exit_first a b r why y (Ok _) q e h = absurd q
+exit_first a b r why y (Err other) q e h = ap Err q ∙ at_first a b r why y e h
+
+pub ruleset checks = (at_refused, at_passed, at_first, past_first, exit_refused, exit_first)

@@ -1,9 +1,16 @@
 -- Searches for the first place where a test holds.
-use Rattle.std.specs.Prelude.{◌≡◌, ℕ, zero, suc, ◌+◌, ◌<◌, ◌≤◌, Bool, true, false, cond, refl}
-use Rattle.std.proofs.Common.{◌∙◌, ap, arith}
+use Rattle.std.specs.Prelude.{◌≡◌, ℕ, zero, suc, ◌+◌, ◌<◌, ◌≤◌, Bool, true, false, not, cond, List, length, Ok, Err, refl}
+use Rattle.std.specs.Prelude as O
+use Rattle.std.specs.List.{position_or_len, range_with_len}
+use Rattle.std.proofs.Common.{◌∙◌, ap, ap₂, arith, get_or, leb, le-leb}
+use borrow.Author.Tests.{lt-leb}
+use lib.Dec.{ltb}
+use Rattle.std.proofs.lemmas.List.Recursion.{is_position_or_len}
 use Rattle.std.proofs.Math.Nat as N
 use Rattle.std.proofs.Math.Decide.{dec_lt}
+use Rattle.fields.specs.Check.{need, outcome}
 use Rattle.fields.specs.Search.{first}
+use Rattle.fields.specs.declared.refusal.Refusal.{Refusal}
 
 -- the test holds nowhere below k
 pub record None (test : ℕ → Bool) (k : ℕ) : Type 0 where
@@ -59,3 +66,41 @@ pub found_holds : (test : ℕ → Bool) (n : ℕ) → first test n < n → test 
 unfolding first
 found_holds test zero h = absurd (N.not-suc-le-zero h)
 found_holds test (suc n) h = found_next test (first (λ k. test (suc k)) n) n (test 0) refl (found_holds (λ k. test (suc k)) n) h
+
+-- the first item that passes is the one that `position` finds
+pub first-position : {A : Type 0} (test : A → Bool) (d : A) (items : List A)
+    → first (λ k. test (get_or items k d)) (length items) ≡ position_or_len test items
+unfolding first
+first-position test d =
+    is_position_or_len (λ items. first (λ k. test (get_or items k d)) (length items)) test refl
+    (λ x rest. ap (cond (test x) 0) (omega arith))
+
+counted : (t : Bool) (m : ℕ) → cond t 0 (suc m) ≡ cond (not t) (1 + m) 0
+counted true m = refl
+counted false m = omega arith
+
+first_from : (at : ℕ → Bool) (test : ℕ → Bool) (a n : ℕ) → ((k : ℕ) → at k ≡ test (a + k))
+    → first at n ≡ position_or_len test (range_with_len a n)
+unfolding first
+first_from at test a zero h = refl
+first_from at test a (suc n) h =
+    let here : at 0 ≡ test a = h 0 ∙ ap test (omega arith) in
+    let after = first_from (λ k. at (suc k)) test (a + 1) n (λ k. h (suc k) ∙ ap test (omega arith)) in
+    ap₂ (λ t m. cond t 0 (suc m)) here after ∙ counted (test a) (position_or_len test (range_with_len (a + 1) n))
+
+-- the same, where the items are the numbers below n
+pub first-range : (test : ℕ → Bool) (n : ℕ) → first test n ≡ position_or_len test (range_with_len 0 n)
+first-range test n = first_from test test 0 n (λ k. ap test (omega arith))
+
+-- what the checks answer that a search makes, from what `position` answered
+pub refused_at : (n place k : ℕ) (why : ℕ → Refusal) → cond (ltb place n) (O.Some place) O.None ≡ O.Some k
+    → Err (why k) ≡ outcome (need (leb n place) (why place))
+refused_at n place k why e =
+    let found : (k ≡ place) × (place < n) = grind arith in
+    rw (lt-leb n place found.1) (ap (λ (t : ℕ). Err (why t)) found.0)
+
+pub passed_all : (n place : ℕ) (why : ℕ → Refusal) → cond (ltb place n) (O.Some place) O.None ≡ O.None
+    → Ok tt ≡ outcome (need (leb n place) (why place))
+passed_all n place why e =
+    let all : n ≤ place = grind arith in
+    rw (le-leb n place all) refl

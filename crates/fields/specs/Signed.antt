@@ -1,15 +1,9 @@
--- Signed numbers: the sign and the size of one, and how code takes a number x of any width apart, a negative one by - (x + 1).
-use Rattle.std.specs.Prelude.{◌≡◌, ℕ, zero, suc, ◌+◌, ◌-◌, ◌^◌, ◌<◌, true, false, ℤ, pos, negsuc, ◌+ℤ◌, ◌-ℤ◌, neg_ℤ, FitsSigned, int_lt, refl}
-use Rattle.std.proofs.Common.{ap, ◌∙◌, subst, not-suc-le-zero, zero-add, arith, ltb-true, lt-ltb, to_z-of_z}
+-- Signed numbers: the sign and the size of one, and of a number x of any width by - (x + 1) where it is negative.
+use Rattle.std.specs.Prelude.{◌≡◌, ℕ, zero, suc, ◌+◌, ◌-◌, ◌^◌, ◌<◌, true, false, ℤ, pos, negsuc, ◌+ℤ◌, ◌-ℤ◌, neg_ℤ, FitsSigned, int_lt, unsigned_abs, refl}
+use Rattle.std.proofs.Common.{sym, ap, ◌∙◌, subst, not-suc-le-zero, zero-add, arith, ltb-true, lt-ltb, to_z-of_z}
 use Rattle.std.specs.Int.Signed.{mag}
 use Rattle.std.specs.Int.{Width}
 use mir.Val.{hbits, to_z, of_z}
-use Rattle.fields.specs.declared.signed.SignAndSize.{SignAndSize}
-
--- the sign and the size; negsuc n is - (n + 1)
-abbrev pub parts_of : ℤ → SignAndSize
-parts_of (pos n) = record { negative = false; size = n }
-parts_of (negsuc n) = record { negative = true; size = n + 1 }
 
 negsuc_plus_one : (n : ℕ) → negsuc n +ℤ pos 1 ≡ neg_ℤ (pos n)
 negsuc_plus_one zero = refl
@@ -57,8 +51,8 @@ module _ (w : Width) where
     pub negated_reads : read w (pos 0 -ℤ read w (read w x +ℤ pos 1)) ≡ pos (mag x)
     negated_reads = to_z-of_z negated_fits ∙ negated
 
-    pub negative_parts : record { negative = true; size = mag x + 1 } ≡ parts_of x
-    negative_parts = rw is_negative
+    pub negative_parts : (true ≡ int_lt x (pos 0)) × (mag x + 1 ≡ unsigned_abs x)
+    negative_parts = rw is_negative (refl, omega arith)
 
   module _ (x : ℤ) (s : FitsSigned w x) (t : int_lt (read w x) (pos 0) ≡ false) where
     pub is_nonnegative : x ≡ pos (mag x)
@@ -67,5 +61,5 @@ module _ (w : Width) where
     pub nonnegative_reads : read w x ≡ pos (mag x)
     nonnegative_reads = to_z-of_z s ∙ is_nonnegative
 
-    pub nonnegative_parts : record { negative = false; size = mag x } ≡ parts_of x
-    nonnegative_parts = rw is_nonnegative
+    pub nonnegative_parts : (false ≡ int_lt x (pos 0)) × (mag x ≡ unsigned_abs x)
+    nonnegative_parts = (sym (subst (λ (z : ℤ). int_lt z (pos 0) ≡ false) (to_z-of_z s) t), rw is_nonnegative refl)

@@ -1,288 +1,126 @@
 // The complex extension of M31: pairs a + bi with i^2 = -1 (stwo's cm31.rs, and the macros of fields/mod.rs).
-ghost use Rattle.std.specs.Prelude.{◌≡◌, ◌+◌, ◌*◌, ◌^◌};
-ghost use Rattle.fields.specs.Words.{complex_words};
-ghost use Rattle.fields.specs.CM31.{of_pair, from_pair_answer, from_base_answer, is_zero_answer, add_answer, sub_answer, neg_answer};
-ghost use Rattle.fields.specs.CM31.{mul_answer, square_answer, pow_answer, inverse_answer, div_answer, conjugate_answer, narrow_answer};
-ghost use Rattle.fields.specs.CM31.{add_base_answer, sub_base_answer, mul_base_answer, div_base_answer, base_sub_answer, base_div_answer};
+ghost use Rattle.std.specs.Prelude.{◌≡◌};
+ghost use Rattle.fields.specs.CM31.{cm31_field, of_base, from_pair_answer, from_base_answer, narrow_answer};
+ghost use Rattle.fields.specs.FieldLaws.{cm31_lawful};
 
-use crate::answer::BoolAnswer;
-use crate::m31::{M31, M31Answer, P, P_SQUARED, inner as m31};
+use crate::check::need;
+use crate::extension::Extension;
+use crate::field::Field;
+use crate::m31::{M31, P_SQUARED};
 use crate::refusal::Refusal;
-use crate::wide::U128;
 
 pub mod inner;
 
 // the order of the field, P^2
 pub const P2: u64 = P_SQUARED;
 
-#[derive(Clone, Copy)]
+#[derive(Clone, Copy, Debug, PartialEq, Eq)]
 pub struct CM31(pub M31, pub M31);
 
-#[derive(Clone, Copy)]
-pub enum CM31Answer {
-    Value(CM31),
-    Refused(Refusal),
-}
+// Part by part, as QM31 (qm31.rt says why both).
+impl Field for CM31 {
+    ghost field = { cm31_field };
 
-impl CM31 {
-    pub fn from_u32_unchecked(a: u32, b: u32) -> CM31Answer
-        ensures { result ≡ from_pair_answer (a, b) }
-    {
-        let pair = CM31(M31(a), M31(b));
-        if !inner::is_reduced(pair) {
-            return CM31Answer::Refused(Refusal::Word(0));
-        }
-        CM31Answer::Value(pair)
-    }
+    ghost lawful = { cm31_lawful };
 
-    pub fn from_m31(a: M31, b: M31) -> CM31Answer
-        ensures { result ≡ from_pair_answer (a.0, b.0) }
-    {
-        CM31::from_u32_unchecked(a.0, b.0)
-    }
-
-    // From<M31>
-    pub fn from_base(x: M31) -> CM31Answer
-        ensures { result ≡ from_base_answer x }
-    {
-        if P <= x.0 {
-            return CM31Answer::Refused(Refusal::Word(0));
-        }
-        CM31Answer::Value(CM31(x, M31(0)))
-    }
-
-    pub fn zero() -> CM31
-        ensures { result ≡ of_pair complex_words.zero }
-    {
+    fn zero() -> CM31 {
         CM31(M31(0), M31(0))
     }
 
-    pub fn one() -> CM31
-        ensures { result ≡ of_pair complex_words.one }
-    {
+    fn one() -> CM31 {
         CM31(M31(1), M31(0))
     }
 
-    pub fn is_zero(self) -> BoolAnswer
-        ensures { result ≡ is_zero_answer self }
-    {
-        if !inner::is_reduced(self) {
-            return BoolAnswer::Refused(Refusal::Word(0));
-        }
-        BoolAnswer::Value(inner::is_zero(self))
+    fn is_reduced(self) -> bool {
+        self.0.is_reduced() && self.1.is_reduced()
     }
 
-    pub fn add(self, rhs: CM31) -> CM31Answer
-        ensures { result ≡ add_answer self rhs }
-    {
-        if !inner::is_reduced(self) {
-            return CM31Answer::Refused(Refusal::Word(0));
-        }
-        if !inner::is_reduced(rhs) {
-            return CM31Answer::Refused(Refusal::Word(0));
-        }
-        CM31Answer::Value(inner::add(self, rhs))
+    fn equals_zero(self) -> bool {
+        self.0.equals_zero() && self.1.equals_zero()
     }
 
-    pub fn sub(self, rhs: CM31) -> CM31Answer
-        ensures { result ≡ sub_answer self rhs }
-    {
-        if !inner::is_reduced(self) {
-            return CM31Answer::Refused(Refusal::Word(0));
-        }
-        if !inner::is_reduced(rhs) {
-            return CM31Answer::Refused(Refusal::Word(0));
-        }
-        CM31Answer::Value(inner::sub(self, rhs))
+    fn plus(self, rhs: CM31) -> CM31 {
+        CM31(self.0.plus(rhs.0), self.1.plus(rhs.1))
     }
 
-    pub fn neg(self) -> CM31Answer
-        ensures { result ≡ neg_answer self }
-    {
-        if !inner::is_reduced(self) {
-            return CM31Answer::Refused(Refusal::Word(0));
-        }
-        CM31Answer::Value(inner::neg(self))
+    fn minus(self, rhs: CM31) -> CM31 {
+        CM31(self.0.minus(rhs.0), self.1.minus(rhs.1))
     }
 
-    pub fn mul(self, rhs: CM31) -> CM31Answer
-        ensures { result ≡ mul_answer self rhs }
-    {
-        if !inner::is_reduced(self) {
-            return CM31Answer::Refused(Refusal::Word(0));
-        }
-        if !inner::is_reduced(rhs) {
-            return CM31Answer::Refused(Refusal::Word(0));
-        }
-        CM31Answer::Value(inner::mul(self, rhs))
+    fn negated(self) -> CM31 {
+        CM31(self.0.negated(), self.1.negated())
     }
 
-    pub fn square(self) -> CM31Answer
-        ensures { result ≡ square_answer self }
-    {
-        if !inner::is_reduced(self) {
-            return CM31Answer::Refused(Refusal::Word(0));
-        }
-        CM31Answer::Value(inner::mul(self, self))
+    fn times(self, rhs: CM31) -> CM31 {
+        inner::mul(self, rhs)
     }
 
-    // The exponent is high 2^64 + low; 0 to the power 0 is 1.
-    pub fn pow(self, high: u64, low: u64) -> CM31Answer
-        ensures { result ≡ pow_answer self (high * 2 ^ 64 + low) }
-    {
-        if !inner::is_reduced(self) {
-            return CM31Answer::Refused(Refusal::Word(0));
-        }
-        CM31Answer::Value(inner::pow(self, U128 { high, low }))
+    // 1 / (a + bi) = (a - bi) / (a^2 + b^2)
+    fn inverted(self) -> CM31 {
+        let norm = self.0.times(self.0).plus(self.1.times(self.1));
+        let inverse = norm.inverted();
+        CM31(self.0.times(inverse), self.1.times(inverse).negated())
     }
 
-    pub fn inverse(self) -> CM31Answer
-        ensures { result ≡ inverse_answer self }
-    {
-        if !inner::is_reduced(self) {
-            return CM31Answer::Refused(Refusal::Word(0));
-        }
-        if inner::is_zero(self) {
-            return CM31Answer::Refused(Refusal::Inverse(0));
-        }
-        CM31Answer::Value(inner::inverse(self))
-    }
-
-    pub fn div(self, rhs: CM31) -> CM31Answer
-        ensures { result ≡ div_answer self rhs }
-    {
-        if !inner::is_reduced(self) {
-            return CM31Answer::Refused(Refusal::Word(0));
-        }
-        if !inner::is_reduced(rhs) {
-            return CM31Answer::Refused(Refusal::Word(0));
-        }
-        if inner::is_zero(rhs) {
-            return CM31Answer::Refused(Refusal::Inverse(0));
-        }
-        CM31Answer::Value(inner::mul(self, inner::inverse(rhs)))
-    }
-
-    pub fn complex_conjugate(self) -> CM31Answer
-        ensures { result ≡ conjugate_answer self }
-    {
-        if !inner::is_reduced(self) {
-            return CM31Answer::Refused(Refusal::Word(0));
-        }
-        CM31Answer::Value(inner::conjugate(self))
-    }
-
-    // TryInto<M31>
-    pub fn try_into_m31(self) -> M31Answer
-        ensures { result ≡ narrow_answer self }
-    {
-        if !inner::is_reduced(self) {
-            return M31Answer::Refused(Refusal::Word(0));
-        }
-        if self.1.0 != 0 {
-            return M31Answer::Refused(Refusal::Narrowing);
-        }
-        let first = self.0;
-        M31Answer::Value(first)
-    }
-
-    pub fn add_m31(self, rhs: M31) -> CM31Answer
-        ensures { result ≡ add_base_answer self rhs }
-    {
-        if !inner::is_reduced(self) {
-            return CM31Answer::Refused(Refusal::Word(0));
-        }
-        if P <= rhs.0 {
-            return CM31Answer::Refused(Refusal::Word(0));
-        }
-        CM31Answer::Value(inner::add_m31(self, rhs.0))
-    }
-
-    pub fn sub_m31(self, rhs: M31) -> CM31Answer
-        ensures { result ≡ sub_base_answer self rhs }
-    {
-        if !inner::is_reduced(self) {
-            return CM31Answer::Refused(Refusal::Word(0));
-        }
-        if P <= rhs.0 {
-            return CM31Answer::Refused(Refusal::Word(0));
-        }
-        CM31Answer::Value(inner::sub_m31(self, rhs.0))
-    }
-
-    pub fn mul_m31(self, rhs: M31) -> CM31Answer
-        ensures { result ≡ mul_base_answer self rhs }
-    {
-        if !inner::is_reduced(self) {
-            return CM31Answer::Refused(Refusal::Word(0));
-        }
-        if P <= rhs.0 {
-            return CM31Answer::Refused(Refusal::Word(0));
-        }
-        CM31Answer::Value(inner::mul_m31(self, rhs.0))
-    }
-
-    pub fn div_m31(self, rhs: M31) -> CM31Answer
-        ensures { result ≡ div_base_answer self rhs }
-    {
-        if !inner::is_reduced(self) {
-            return CM31Answer::Refused(Refusal::Word(0));
-        }
-        if P <= rhs.0 {
-            return CM31Answer::Refused(Refusal::Word(0));
-        }
-        if rhs.0 == 0 {
-            return CM31Answer::Refused(Refusal::Inverse(0));
-        }
-        CM31Answer::Value(inner::mul_m31(self, m31::pow2147483645(rhs.0)))
+    fn conjugated(self) -> CM31 {
+        CM31(self.0, self.1.negated())
     }
 }
 
-// M31 on the left.
-impl M31 {
-    pub fn add_cm31(self, rhs: CM31) -> CM31Answer
-        ensures { result ≡ add_base_answer rhs self }
-    {
-        rhs.add_m31(self)
+impl Extension for CM31 {
+    ghost embed = { of_base };
+
+    fn embedded(m: M31) -> CM31 {
+        CM31(m, M31(0))
     }
 
-    pub fn sub_cm31(self, rhs: CM31) -> CM31Answer
-        ensures { result ≡ base_sub_answer self rhs }
-    {
-        if P <= self.0 {
-            return CM31Answer::Refused(Refusal::Word(0));
-        }
-        if !inner::is_reduced(rhs) {
-            return CM31Answer::Refused(Refusal::Word(0));
-        }
-        CM31Answer::Value(inner::add_m31(inner::neg(rhs), self.0))
+    fn plus_m31(self, rhs: M31) -> CM31 {
+        CM31(self.0.plus(rhs), self.1)
     }
 
-    pub fn mul_cm31(self, rhs: CM31) -> CM31Answer
-        ensures { result ≡ mul_base_answer rhs self }
-    {
-        rhs.mul_m31(self)
+    fn minus_m31(self, rhs: M31) -> CM31 {
+        CM31(self.0.minus(rhs), self.1)
     }
 
-    pub fn div_cm31(self, rhs: CM31) -> CM31Answer
-        ensures { result ≡ base_div_answer self rhs }
-    {
-        if P <= self.0 {
-            return CM31Answer::Refused(Refusal::Word(0));
-        }
-        if !inner::is_reduced(rhs) {
-            return CM31Answer::Refused(Refusal::Word(0));
-        }
-        if inner::is_zero(rhs) {
-            return CM31Answer::Refused(Refusal::Inverse(0));
-        }
-        CM31Answer::Value(inner::mul_m31(inner::inverse(rhs), self.0))
+    fn times_m31(self, rhs: M31) -> CM31 {
+        CM31(self.0.times(rhs), self.1.times(rhs))
     }
 }
 
-// v to the power P - 2.
-pub fn pow2147483645(v: CM31) -> CM31Answer
-    ensures { result ≡ pow_answer v 2147483645 }
-{
-    v.pow(0, 2147483645)
+impl CM31 {
+    pub fn from_u32_unchecked(a: u32, b: u32) -> Result<CM31, Refusal>
+        ensures { result ≡ from_pair_answer (a, b) }
+    {
+        CM31::from_m31(M31(a), M31(b))
+    }
+
+    pub fn from_m31(a: M31, b: M31) -> Result<CM31, Refusal>
+        ensures { result ≡ from_pair_answer (a.0, b.0) }
+    {
+        let pair = CM31(a, b);
+        pair.check()?;
+        Ok(pair)
+    }
+}
+
+impl TryFrom<M31> for CM31 {
+    type Error = Refusal;
+
+    ghost try_from_gives = { λ x r. r ≡ from_base_answer x };
+
+    fn try_from(x: M31) -> Result<CM31, Refusal> {
+        CM31::from_base(x)
+    }
+}
+
+impl TryFrom<CM31> for M31 {
+    type Error = Refusal;
+
+    ghost try_from_gives = { λ a r. r ≡ narrow_answer a };
+
+    fn try_from(a: CM31) -> Result<M31, Refusal> {
+        a.check()?;
+        need(a.1.equals_zero(), Refusal::Narrowing)?;
+        Ok(a.0)
+    }
 }

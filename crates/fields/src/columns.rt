@@ -1,8 +1,10 @@
 // Columns of words, each to be below P.
 ghost use Rattle.std.specs.Prelude.{◌≡◌, true, length};
-ghost use Rattle.fields.specs.Columns.{first_bad};
+ghost use Rattle.fields.specs.Check.{outcome};
+ghost use Rattle.fields.specs.Columns.{first_bad, words};
 
 use crate::m31::P;
+use crate::refusal::Refusal;
 
 // 2^31
 const TWO_POW_31: u32 = 2147483648;
@@ -13,34 +15,21 @@ fn all_below_p(column: &[u32]) -> bool
     ensures { result ≡ true → length column.now ≡ first_bad column.now }
 {
     let mut seen: u32 = 0;
-    let mut i: usize = 0;
-    while i < column.len() {
-        let word = column[i];
-        seen = seen | (word | std::num::wrapping_add_u32(word, 1));
-        i += 1;
+    for &word in column {
+        seen |= word | word.wrapping_add(1);
     }
     seen < TWO_POW_31
 }
 
-fn search_bad(column: &[u32]) -> usize
-    ensures { result ≡ first_bad column.now }
-{
-    let mut i: usize = 0;
-    while i < column.len() {
-        if P <= column[i] {
-            return i;
-        }
-        i += 1;
-    }
-    i
-}
-
-// The position of the lowest word at or above P, the length where there is none.
-pub fn first_bad(column: &[u32]) -> usize
-    ensures { result ≡ first_bad column.now }
+// Every word is below P, else the lowest one that isn't is refused.
+pub fn check_words(column: &[u32]) -> Result<(), Refusal>
+    ensures { result ≡ outcome (words column.now) }
 {
     if all_below_p(column) {
-        return column.len();
+        return Ok(());
     }
-    search_bad(column)
+    match column.iter().position(|&word| P <= word) {
+        Some(at) => Err(Refusal::Word(at as u64)),
+        None => Ok(()),
+    }
 }

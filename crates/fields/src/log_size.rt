@@ -12,8 +12,5 @@ pub const MAX_CIRCLE_DOMAIN_LOG_SIZE: u32 = 30;
 pub fn is_log_size(log_size: u32) -> bool
     ensures { result ≡ is_log_size log_size }
 {
-    if log_size < MIN_CIRCLE_DOMAIN_LOG_SIZE {
-        return false;
-    }
-    log_size <= MAX_CIRCLE_DOMAIN_LOG_SIZE
+    MIN_CIRCLE_DOMAIN_LOG_SIZE <= log_size && log_size <= MAX_CIRCLE_DOMAIN_LOG_SIZE
 }

@@ -2,7 +2,7 @@
 ghost use Rattle.std.specs.Prelude.{◌≡◌};
 ghost use Rattle.fields.specs.Refusal.{number_of, position_of};
 
-#[derive(Clone, Copy)]
+#[derive(Clone, Copy, Debug, PartialEq, Eq)]
 pub enum Refusal {
     // a log size outside its range
     LogSize,
@@ -33,6 +33,7 @@ pub enum Refusal {
 }
 
 impl Refusal {
+    // The number and the position that the C interface gives.
     pub fn number(self) -> u32
         ensures { result ≡ number_of self }
     {
@@ -57,19 +58,8 @@ impl Refusal {
         ensures { result ≡ position_of self }
     {
         match self {
-            Refusal::LogSize => 0,
-            Refusal::Index => 0,
-            Refusal::Scalar => 0,
-            Refusal::Length => 0,
-            Refusal::Chunk => 0,
-            Refusal::Word(at) => at,
-            Refusal::Contradiction => 0,
-            Refusal::Reduction => 0,
-            Refusal::Inverse(at) => at,
-            Refusal::Halving => 0,
-            Refusal::Doublings => 0,
-            Refusal::Circle => 0,
-            Refusal::Narrowing => 0,
+            Refusal::Word(at) | Refusal::Inverse(at) => at,
+            _ => 0,
         }
     }
 }

@@ -1,7 +1,10 @@
 pub mod Masks
 pub mod Shifts
+pub mod LogSize
 pub mod Turns
 pub mod Columns
+pub mod Blocks
+pub mod Copies
 pub mod Offsets
 pub mod Accepted
 pub mod OrderLaws

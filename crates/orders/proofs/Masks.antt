@@ -3,20 +3,15 @@ use Prim.Native.Nat.{ℕ, zero, suc, ◌+◌, ◌-◌, ◌*◌, ◌/◌, ◌%◌
 use mathlib.Core.Path.{◌≡◌, refl, sym, ◌∙◌, ap, ap₂}
 use native.Mathlib.Nat as N
 use native.Mathlib.Omega.{arith}
-use lib.Bits.{bit_and, and_block, and_mask, and_zero_r, and_le_r}
+use lib.Bits.{bit_and, and_block, and_mask, and_zero_r}
 use lib.Pow as W
-use mir.Syntax.{w64}
-use mir.Val.{Fits}
 use Rattle.orders.specs.BitReverse.{reverse_bits, reversed_below, reversed_parts}
+use Rattle.orders.specs.Swaps.{halves_exchanged}
 
 -- the k low bits of each of m fields of k + k bits
 unfoldable pub low_halves : ℕ → ℕ → ℕ
 low_halves k zero = zero
 low_halves k (suc m) = low_halves k m * 2 ^ (k + k) + (2 ^ k - 1)
-
--- what the code computes with such a mask
-abbrev pub step : (mask k y : ℕ) → ℕ
-step mask k y = bit_and y mask * 2 ^ k + bit_and (y / 2 ^ k) mask
 
 -- what that is: in each of m fields the halves changed over
 exchanged : ℕ → ℕ → ℕ → ℕ
@@ -39,7 +34,7 @@ low_field k y e =
 shift_swap : (k y : ℕ) → y / 2 ^ k / 2 ^ (k + k) ≡ y / 2 ^ (k + k) / 2 ^ k
 shift_swap k y = W.shr-shr y k (k + k) ∙ ap (λ (e : ℕ). y / 2 ^ e) (sym (N.add_assoc k k k)) ∙ sym (W.shr-shr y (k + k) k)
 
-step_is : (k m y : ℕ) → step (low_halves k m) k y ≡ exchanged k m y
+step_is : (k m y : ℕ) → halves_exchanged (low_halves k m) k y ≡ exchanged k m y
 unfolding low_halves exchanged
 step_is k zero y = ap₂ (λ (p q : ℕ). p * 2 ^ k + q) (and_zero_r y) (and_zero_r (y / 2 ^ k)) ∙ omega arith
 step_is k (suc m) y =
@@ -99,8 +94,13 @@ exchanged_fields k (suc m) x =
         ∙ ap (reversed_fields k (m + m)) (W.shr-shr x k k)
 
 -- one line of the code
-pub fields_step : (mask k m y x : ℕ) → mask ≡ low_halves k m → y ≡ reversed_fields k (m + m) x → step mask k y ≡ reversed_fields (k + k) m x
-fields_step mask k m y x e f = ap₂ (λ (p q : ℕ). step p k q) e f ∙ step_is k m (reversed_fields k (m + m) x) ∙ exchanged_fields k m x
+pub fields_step : (mask k m y x r : ℕ) → mask ≡ low_halves k m → y ≡ reversed_fields k (m + m) x → r ≡ halves_exchanged mask k y
+    → r ≡ reversed_fields (k + k) m x
+fields_step mask k m y x r e f g =
+    g
+    ∙ ap₂ (λ (p q : ℕ). halves_exchanged p k q) e f
+    ∙ step_is k m (reversed_fields k (m + m) x)
+    ∙ exchanged_fields k m x
 
 single_bits : (m x : ℕ) → reversed_fields 1 m x ≡ x % 2 ^ m
 unfolding reversed_fields reverse_bits
@@ -116,10 +116,3 @@ bits_of x h = sym (single_bits 64 x ∙ N.mod-eq_of_lt h)
 pub one_field : (x : ℕ) → reversed_fields 64 1 x ≡ reverse_bits 64 x
 unfolding reversed_fields
 one_field x = omega arith
-
--- a step's product and sum fit, whatever y is
-pub product_fits : (mask k y : ℕ) → mask * 2 ^ k + mask < 2 ^ 64 → Fits w64 (bit_and y mask * 2 ^ k)
-product_fits mask k y h = record { fits = omega (arith, N.mul-le-mul_right (2 ^ k) (and_le_r y mask)) }
-
-pub step_fits : (mask k y : ℕ) → mask * 2 ^ k + mask < 2 ^ 64 → Fits w64 (step mask k y)
-step_fits mask k y h = record { fits = omega (arith, N.mul-le-mul_right (2 ^ k) (and_le_r y mask), and_le_r (y / 2 ^ k) mask) }

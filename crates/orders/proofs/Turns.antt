@@ -1,6 +1,6 @@
 -- Columns changed in place or filled word by word, in any order of visits: `at k` is the turn that place k has.
 use Prim.Native.Nat.{ℕ, ◌+◌, ◌-◌, ◌≤◌, ◌<◌}
-use mathlib.Core.Path.{◌≡◌, refl, sym, ◌∙◌, ap, subst}
+use mathlib.Core.Path.{◌≡◌, sym, ◌∙◌, ap, subst}
 use mathlib.Core.List.{List, ◌++◌}
 use native.Mathlib.Nat as N
 use native.Mathlib.Decide.{dec_lt}
@@ -8,6 +8,8 @@ use native.Mathlib.Omega.{arith}
 use borrow.Author.Tests.{lt-ltb, le-ltb}
 use lib.ListN.{length, get_or, set, drop, length-set, length-append, length-drop, get_or-append}
 use lib.Seq.{get_or-set_same, get_or-set_other, ext_get_or, get_or-append-add, get_or-drop}
+use Rattle.std.specs.Prelude.{swap}
+use Rattle.std.proofs.lemmas.List.Edits.{swap_is}
 use Rattle.orders.specs.Orders.{reordered}
 use Rattle.orders.proofs.OrderLaws.{reordered-length, reordered-at, is_reordered}
 use Rattle.orders.specs.Swaps.{swapped, swapped_if_before}
@@ -31,14 +33,6 @@ pub record Swapped (f at : ℕ → ℕ) (l : List ℕ) (t : ℕ) (v : List ℕ) 
 
 module _ (f at : ℕ → ℕ) (l : List ℕ) (within : (k : ℕ) → k < length l → f k < length l) (twice : (k : ℕ) → k < length l → f (f k) ≡ k)
     (visits : Visits (length l) at) where
-  pub none_swapped : Swapped f at l 0 l
-  none_swapped = record {
-    long = refl;
-    visited = λ k b h. absurd (N.not-suc-le-zero h);
-    partner = λ k b h. absurd (N.not-suc-le-zero h);
-    rest = λ k b g h. refl;
-  }
-
   pub all_swapped : (t : ℕ) (v : List ℕ) → length l ≤ t → Swapped f at l t v → v ≡ reordered f l
   all_swapped t v h s = is_reordered f l v s.long (λ k b. s.visited k b (omega (arith, visits.below k b)))
 
@@ -135,6 +129,15 @@ module _ (f at : ℕ → ℕ) (l : List ℕ) (within : (k : ℕ) → k < length 
           | no g ↦ rw (le-ltb t u (omega arith)) (kept (omega arith))
         ])
 
+-- what the code's `swap` leaves
+pub swapped_before : (t u i j : ℕ) (v : List ℕ) → i < length v → j < length v → t < u → swapped_if_before t u i j v ≡ swap v i j
+unfolding swapped_if_before
+swapped_before t u i j v in-i in_j h = rw (lt-ltb t u h) (swap_is v i j 0 in-i in_j)
+
+pub not_swapped : (t u i j : ℕ) (v : List ℕ) → u ≤ t → swapped_if_before t u i j v ≡ v
+unfolding swapped_if_before
+not_swapped t u i j v h = rw (le-ltb t u h)
+
 -- ---- copies: at its turn a place of the destination gets its word
 
 -- out is dst with the words of values in place whose turn is below t
@@ -144,9 +147,6 @@ pub record Copied (f at : ℕ → ℕ) (values dst : List ℕ) (t : ℕ) (out : 
   pub rest : (k : ℕ) → (k < length values → t ≤ at k) → get_or out k 0 ≡ get_or dst k 0
 
 module _ (f at : ℕ → ℕ) (values dst : List ℕ) (room : length values ≤ length dst) (visits : Visits (length values) at) where
-  pub none_copied : Copied f at values dst 0 dst
-  none_copied = record { long = refl; written = λ k b h. absurd (N.not-suc-le-zero h); rest = λ k h. refl }
-
   next_copied : (t i j : ℕ) (out : List ℕ) → at i ≡ t → i < length values → f i ≡ j → Copied f at values dst t out
       → Copied f at values dst (t + 1) (set out i (get_or values j 0))
   next_copied t i j out turn in-i to_j s = record {

@@ -1,27 +1,15 @@
 -- Cosets, domains and their iterators as the numbers that cross the C interface.
-use Rattle.std.specs.Prelude.{ℕ}
+use Rattle.std.specs.Prelude.{ℕ, Option, Some, None, Result, Ok, Err}
 use Rattle.fields.specs.Refusal.{number_of, position_of}
+use Rattle.fields.specs.declared.refusal.Refusal.{Refusal}
 use Rattle.circle.specs.Point.{of_point}
 use Rattle.circle.specs.Index.{of_index}
+use Rattle.circle.specs.declared.index.CirclePointIndex.{CirclePointIndex}
 use Rattle.domains.specs.declared.coset.Coset.{Coset}
-use Rattle.domains.specs.declared.coset.CosetAnswer.{CosetAnswer}
-use Rattle.domains.specs.declared.coset.CosetAnswer.TheVariants.{Value, Refused}
 use Rattle.domains.specs.declared.canonic.CanonicCoset.{CanonicCoset}
-use Rattle.domains.specs.declared.canonic.CanonicCosetAnswer.{CanonicCosetAnswer}
-use Rattle.domains.specs.declared.canonic.CanonicCosetAnswer.TheVariants as C
 use Rattle.domains.specs.declared.domain.CircleDomain.{CircleDomain}
-use Rattle.domains.specs.declared.domain.CircleDomainAnswer.{CircleDomainAnswer}
-use Rattle.domains.specs.declared.domain.CircleDomainAnswer.TheVariants as D
 use Rattle.domains.specs.declared.iterator.CosetIterator.{CosetIterator}
-use Rattle.domains.specs.declared.iterator.CosetIteratorAnswer.{CosetIteratorAnswer}
-use Rattle.domains.specs.declared.iterator.CosetIteratorAnswer.TheVariants as T
-use Rattle.domains.specs.declared.iterator.CosetStep.{CosetStep}
-use Rattle.domains.specs.declared.iterator.CosetStep.TheVariants as S
 use Rattle.domains.specs.declared.iterator.CircleDomainIndexIterator.{CircleDomainIndexIterator}
-use Rattle.domains.specs.declared.iterator.CircleDomainIndexIteratorAnswer.{CircleDomainIndexIteratorAnswer}
-use Rattle.domains.specs.declared.iterator.CircleDomainIndexIteratorAnswer.TheVariants as I
-use Rattle.domains.specs.declared.iterator.CircleDomainStep.{CircleDomainStep}
-use Rattle.domains.specs.declared.iterator.CircleDomainStep.TheVariants as N
 use Rattle.taripomune.specs.declared.coset_reply.CosetReply.{CosetReply}
 use Rattle.taripomune.specs.declared.coset_reply.CosetIteratorReply.{CosetIteratorReply}
 use Rattle.taripomune.specs.declared.coset_reply.CosetStepReply.{CosetStepReply}
@@ -31,7 +19,7 @@ use Rattle.taripomune.specs.declared.coset_reply.CircleDomainStepReply.{CircleDo
 -- ---- the numbers that a call takes
 
 -- initial index, x and y; step index, x and y; log size
-unfoldable pub of_numbers : ℕ → ℕ → ℕ → ℕ → ℕ → ℕ → ℕ → Coset
+abbrev pub of_numbers : ℕ → ℕ → ℕ → ℕ → ℕ → ℕ → ℕ → Coset
 of_numbers k x y s u v n = record {
   initial_index = of_index k;
   initial = of_point (x, y);
@@ -41,26 +29,26 @@ of_numbers k x y s u v n = record {
 }
 
 -- a canonic coset as its coset
-unfoldable pub canonic_of_numbers : ℕ → ℕ → ℕ → ℕ → ℕ → ℕ → ℕ → CanonicCoset
+abbrev pub canonic_of_numbers : ℕ → ℕ → ℕ → ℕ → ℕ → ℕ → ℕ → CanonicCoset
 canonic_of_numbers k x y s u v n = record { coset = of_numbers k x y s u v n }
 
 -- a circle domain as its half coset
-unfoldable pub domain_of_numbers : ℕ → ℕ → ℕ → ℕ → ℕ → ℕ → ℕ → CircleDomain
+abbrev pub domain_of_numbers : ℕ → ℕ → ℕ → ℕ → ℕ → ℕ → ℕ → CircleDomain
 domain_of_numbers k x y s u v n = record { half_coset = of_numbers k x y s u v n }
 
 -- the index to hand back next, the step, how many remain
-unfoldable pub iterator_of_numbers : ℕ → ℕ → ℕ → CosetIterator
+abbrev pub iterator_of_numbers : ℕ → ℕ → ℕ → CosetIterator
 iterator_of_numbers cur step remaining = record { cur = of_index cur; step = of_index step; remaining = remaining }
 
 -- the half coset's iterator, then its conjugate's
-unfoldable pub index_iterator_of_numbers : ℕ → ℕ → ℕ → ℕ → ℕ → ℕ → CircleDomainIndexIterator
+abbrev pub index_iterator_of_numbers : ℕ → ℕ → ℕ → ℕ → ℕ → ℕ → CircleDomainIndexIterator
 index_iterator_of_numbers a b c d e f = record { first = iterator_of_numbers a b c; second = iterator_of_numbers d e f }
 
 -- ---- replies
 
 -- the seven numbers of a coset
-unfoldable pub coset_reply : CosetAnswer → CosetReply
-coset_reply (Value c) = record {
+abbrev pub coset_reply : Result Coset Refusal → CosetReply
+coset_reply (Ok c) = record {
   number = 0;
   position = 0;
   initial_index = c.initial_index.0;
@@ -71,7 +59,7 @@ coset_reply (Value c) = record {
   step_y = c.step.y.0;
   log_size = c.log_size;
 }
-coset_reply (Refused why) = record {
+coset_reply (Err why) = record {
   number = number_of why;
   position = position_of why;
   initial_index = 0;
@@ -84,25 +72,25 @@ coset_reply (Refused why) = record {
 }
 
 -- its coset
-unfoldable pub canonic_coset_reply : CanonicCosetAnswer → CosetReply
-canonic_coset_reply (C.Value c) = coset_reply (Value c.coset)
-canonic_coset_reply (C.Refused why) = coset_reply (Refused why)
+abbrev pub canonic_coset_reply : Result CanonicCoset Refusal → CosetReply
+canonic_coset_reply (Ok c) = coset_reply (Ok c.coset)
+canonic_coset_reply (Err why) = coset_reply (Err why)
 
 -- its half coset
-unfoldable pub circle_domain_reply : CircleDomainAnswer → CosetReply
-circle_domain_reply (D.Value d) = coset_reply (Value d.half_coset)
-circle_domain_reply (D.Refused why) = coset_reply (Refused why)
+abbrev pub circle_domain_reply : Result CircleDomain Refusal → CosetReply
+circle_domain_reply (Ok d) = coset_reply (Ok d.half_coset)
+circle_domain_reply (Err why) = coset_reply (Err why)
 
 -- the index to hand back next, the step, how many remain
-unfoldable pub coset_iterator_reply : CosetIteratorAnswer → CosetIteratorReply
-coset_iterator_reply (T.Value it) = record {
+abbrev pub coset_iterator_reply : Result CosetIterator Refusal → CosetIteratorReply
+coset_iterator_reply (Ok it) = record {
   number = 0;
   position = 0;
   cur = it.cur.0;
   step = it.step.0;
   remaining = it.remaining;
 }
-coset_iterator_reply (T.Refused why) = record {
+coset_iterator_reply (Err why) = record {
   number = number_of why;
   position = position_of why;
   cur = 0;
@@ -111,8 +99,8 @@ coset_iterator_reply (T.Refused why) = record {
 }
 
 -- done or not, the index, the iterator after the step
-unfoldable pub coset_step_reply : CosetStep → CosetStepReply
-coset_step_reply (S.Next index it) = record {
+abbrev pub coset_step_reply : Result (Option CirclePointIndex × CosetIterator) Refusal → CosetStepReply
+coset_step_reply (Ok (Some index, it)) = record {
   number = 0;
   position = 0;
   done = 0;
@@ -121,7 +109,7 @@ coset_step_reply (S.Next index it) = record {
   step = it.step.0;
   remaining = it.remaining;
 }
-coset_step_reply (S.Done it) = record {
+coset_step_reply (Ok (None, it)) = record {
   number = 0;
   position = 0;
   done = 1;
@@ -130,7 +118,7 @@ coset_step_reply (S.Done it) = record {
   step = it.step.0;
   remaining = it.remaining;
 }
-coset_step_reply (S.Refused why) = record {
+coset_step_reply (Err why) = record {
   number = number_of why;
   position = position_of why;
   done = 0;
@@ -141,8 +129,8 @@ coset_step_reply (S.Refused why) = record {
 }
 
 -- the numbers of the half coset's iterator, then of its conjugate's
-unfoldable pub index_iterator_reply : CircleDomainIndexIteratorAnswer → CircleDomainIndexIteratorReply
-index_iterator_reply (I.Value it) = record {
+abbrev pub index_iterator_reply : Result CircleDomainIndexIterator Refusal → CircleDomainIndexIteratorReply
+index_iterator_reply (Ok it) = record {
   number = 0;
   position = 0;
   first_cur = it.first.cur.0;
@@ -152,7 +140,7 @@ index_iterator_reply (I.Value it) = record {
   second_step = it.second.step.0;
   second_remaining = it.second.remaining;
 }
-index_iterator_reply (I.Refused why) = record {
+index_iterator_reply (Err why) = record {
   number = number_of why;
   position = position_of why;
   first_cur = 0;
@@ -164,8 +152,8 @@ index_iterator_reply (I.Refused why) = record {
 }
 
 -- done or not, the index, both iterators after the step
-unfoldable pub circle_domain_step_reply : CircleDomainStep → CircleDomainStepReply
-circle_domain_step_reply (N.Next index it) = record {
+abbrev pub circle_domain_step_reply : Result (Option CirclePointIndex × CircleDomainIndexIterator) Refusal → CircleDomainStepReply
+circle_domain_step_reply (Ok (Some index, it)) = record {
   number = 0;
   position = 0;
   done = 0;
@@ -177,7 +165,7 @@ circle_domain_step_reply (N.Next index it) = record {
   second_step = it.second.step.0;
   second_remaining = it.second.remaining;
 }
-circle_domain_step_reply (N.Done it) = record {
+circle_domain_step_reply (Ok (None, it)) = record {
   number = 0;
   position = 0;
   done = 1;
@@ -189,7 +177,7 @@ circle_domain_step_reply (N.Done it) = record {
   second_step = it.second.step.0;
   second_remaining = it.second.remaining;
 }
-circle_domain_step_reply (N.Refused why) = record {
+circle_domain_step_reply (Err why) = record {
   number = number_of why;
   position = position_of why;
   done = 0;

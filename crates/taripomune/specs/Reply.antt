@@ -1,28 +1,13 @@
 -- An answer as the numbers that cross the C interface.
-use Rattle.std.specs.Prelude.{ℕ, Bool, true, false}
+use Rattle.std.specs.Prelude.{ℕ, Bool, true, false, List, Result, Ok, Err}
 use Rattle.fields.specs.Refusal.{number_of, position_of}
-use Rattle.fields.specs.declared.m31.M31Answer.{M31Answer}
-use Rattle.fields.specs.declared.m31.M31Answer.TheVariants.{Value, Refused}
-use Rattle.fields.specs.declared.cm31.CM31Answer.{CM31Answer}
-use Rattle.fields.specs.declared.cm31.CM31Answer.TheVariants as C
-use Rattle.fields.specs.declared.qm31.QM31Answer.{QM31Answer}
-use Rattle.fields.specs.declared.qm31.QM31Answer.TheVariants as Q
-use Rattle.fields.specs.declared.qm31.M31ArrayAnswer.{M31ArrayAnswer}
-use Rattle.fields.specs.declared.qm31.M31ArrayAnswer.TheVariants as A
-use Rattle.fields.specs.declared.answer.BoolAnswer.{BoolAnswer}
-use Rattle.fields.specs.declared.answer.BoolAnswer.TheVariants as B
-use Rattle.fields.specs.declared.answer.U32Answer.{U32Answer}
-use Rattle.fields.specs.declared.answer.U32Answer.TheVariants as U
-use Rattle.fields.specs.declared.answer.U64Answer.{U64Answer}
-use Rattle.fields.specs.declared.answer.U64Answer.TheVariants as L
-use Rattle.fields.specs.declared.answer.WriteAnswer.{WriteAnswer}
-use Rattle.fields.specs.declared.answer.WriteAnswer.TheVariants as W
-use Rattle.circle.specs.declared.point.CirclePointAnswer.{CirclePointAnswer}
-use Rattle.circle.specs.declared.point.CirclePointAnswer.TheVariants as P
-use Rattle.circle.specs.declared.secure_point.SecureCirclePointAnswer.{SecureCirclePointAnswer}
-use Rattle.circle.specs.declared.secure_point.SecureCirclePointAnswer.TheVariants as S
-use Rattle.circle.specs.declared.index.CirclePointIndexAnswer.{CirclePointIndexAnswer}
-use Rattle.circle.specs.declared.index.CirclePointIndexAnswer.TheVariants as I
+use Rattle.fields.specs.QM31.{word_at}
+use Rattle.fields.specs.declared.m31.M31.{M31}
+use Rattle.fields.specs.declared.cm31.CM31.{CM31}
+use Rattle.fields.specs.declared.qm31.QM31.{QM31}
+use Rattle.fields.specs.declared.refusal.Refusal.{Refusal}
+use Rattle.circle.specs.declared.point.CirclePoint.{CirclePoint}
+use Rattle.circle.specs.declared.index.CirclePointIndex.{CirclePointIndex}
 use Rattle.taripomune.specs.declared.reply.M31Reply.{M31Reply}
 use Rattle.taripomune.specs.declared.reply.BoolReply.{BoolReply}
 use Rattle.taripomune.specs.declared.reply.CM31Reply.{CM31Reply}
@@ -35,9 +20,9 @@ use Rattle.taripomune.specs.declared.reply.IndexReply.{IndexReply}
 use Rattle.taripomune.specs.declared.reply.WriteReply.{WriteReply}
 
 -- the word of an element
-unfoldable pub m31_reply : M31Answer → M31Reply
-m31_reply (Value a) = record { number = 0; position = 0; value = a.0 }
-m31_reply (Refused why) = record { number = number_of why; position = position_of why; value = 0 }
+abbrev pub m31_reply : Result M31 Refusal → M31Reply
+m31_reply (Ok a) = record { number = 0; position = 0; value = a.0 }
+m31_reply (Err why) = record { number = number_of why; position = position_of why; value = 0 }
 
 -- yes as 1, no as 0
 abbrev pub yes_or_no : Bool → ℕ
@@ -45,28 +30,28 @@ yes_or_no true = 1
 yes_or_no false = 0
 
 -- yes is 1, no is 0
-unfoldable pub bool_reply : BoolAnswer → BoolReply
-bool_reply (B.Value b) = record { number = 0; position = 0; value = yes_or_no b }
-bool_reply (B.Refused why) = record { number = number_of why; position = position_of why; value = 0 }
+abbrev pub bool_reply : Result Bool Refusal → BoolReply
+bool_reply (Ok b) = record { number = 0; position = 0; value = yes_or_no b }
+bool_reply (Err why) = record { number = number_of why; position = position_of why; value = 0 }
 
 -- a number as it is
-unfoldable pub u32_reply : U32Answer → U32Reply
-u32_reply (U.Value value) = record { number = 0; position = 0; value = value }
-u32_reply (U.Refused why) = record { number = number_of why; position = position_of why; value = 0 }
+abbrev pub u32_reply : Result ℕ Refusal → U32Reply
+u32_reply (Ok value) = record { number = 0; position = 0; value = value }
+u32_reply (Err why) = record { number = number_of why; position = position_of why; value = 0 }
 
 -- a number as it is
-unfoldable pub u64_reply : U64Answer → U64Reply
-u64_reply (L.Value value) = record { number = 0; position = 0; value = value }
-u64_reply (L.Refused why) = record { number = number_of why; position = position_of why; value = 0 }
+abbrev pub u64_reply : Result ℕ Refusal → U64Reply
+u64_reply (Ok value) = record { number = 0; position = 0; value = value }
+u64_reply (Err why) = record { number = number_of why; position = position_of why; value = 0 }
 
 -- the words of a + bi
-unfoldable pub cm31_reply : CM31Answer → CM31Reply
-cm31_reply (C.Value x) = record { number = 0; position = 0; a = x.0.0; b = x.1.0 }
-cm31_reply (C.Refused why) = record { number = number_of why; position = position_of why; a = 0; b = 0 }
+abbrev pub cm31_reply : Result CM31 Refusal → CM31Reply
+cm31_reply (Ok x) = record { number = 0; position = 0; a = x.0.0; b = x.1.0 }
+cm31_reply (Err why) = record { number = number_of why; position = position_of why; a = 0; b = 0 }
 
 -- the words of (a + bi) + (c + di)u
-unfoldable pub qm31_reply : QM31Answer → QM31Reply
-qm31_reply (Q.Value x) = record {
+abbrev pub qm31_reply : Result QM31 Refusal → QM31Reply
+qm31_reply (Ok x) = record {
   number = 0;
   position = 0;
   a = x.0.0.0;
@@ -74,21 +59,28 @@ qm31_reply (Q.Value x) = record {
   c = x.1.0.0;
   d = x.1.1.0;
 }
-qm31_reply (Q.Refused why) = record { number = number_of why; position = position_of why; a = 0; b = 0; c = 0; d = 0 }
+qm31_reply (Err why) = record { number = number_of why; position = position_of why; a = 0; b = 0; c = 0; d = 0 }
 
 -- an array of four words crosses as an element of QM31 does
-unfoldable pub array_reply : M31ArrayAnswer → QM31Reply
-array_reply (A.Value a b c d) = record { number = 0; position = 0; a = a.0; b = b.0; c = c.0; d = d.0 }
-array_reply (A.Refused why) = record { number = number_of why; position = position_of why; a = 0; b = 0; c = 0; d = 0 }
+abbrev pub array_reply : Result (List M31) Refusal → QM31Reply
+array_reply (Ok array) = record {
+  number = 0;
+  position = 0;
+  a = word_at array 0;
+  b = word_at array 1;
+  c = word_at array 2;
+  d = word_at array 3;
+}
+array_reply (Err why) = record { number = number_of why; position = position_of why; a = 0; b = 0; c = 0; d = 0 }
 
 -- x and y
-unfoldable pub point_reply : CirclePointAnswer → PointReply
-point_reply (P.Value value) = record { number = 0; position = 0; x = value.x.0; y = value.y.0 }
-point_reply (P.Refused why) = record { number = number_of why; position = position_of why; x = 0; y = 0 }
+abbrev pub point_reply : Result (CirclePoint M31) Refusal → PointReply
+point_reply (Ok value) = record { number = 0; position = 0; x = value.x.0; y = value.y.0 }
+point_reply (Err why) = record { number = number_of why; position = position_of why; x = 0; y = 0 }
 
 -- the words of x and then of y
-unfoldable pub secure_point_reply : SecureCirclePointAnswer → SecurePointReply
-secure_point_reply (S.Value value) = record {
+abbrev pub secure_point_reply : Result (CirclePoint QM31) Refusal → SecurePointReply
+secure_point_reply (Ok value) = record {
   number = 0;
   position = 0;
   x0 = value.x.0.0.0;
@@ -100,7 +92,7 @@ secure_point_reply (S.Value value) = record {
   y2 = value.y.1.0.0;
   y3 = value.y.1.1.0;
 }
-secure_point_reply (S.Refused why) = record {
+secure_point_reply (Err why) = record {
   number = number_of why;
   position = position_of why;
   x0 = 0;
@@ -114,11 +106,11 @@ secure_point_reply (S.Refused why) = record {
 }
 
 -- the index as a number
-unfoldable pub index_reply : CirclePointIndexAnswer → IndexReply
-index_reply (I.Value value) = record { number = 0; position = 0; index = value.0 }
-index_reply (I.Refused why) = record { number = number_of why; position = position_of why; index = 0 }
+abbrev pub index_reply : Result CirclePointIndex Refusal → IndexReply
+index_reply (Ok value) = record { number = 0; position = 0; index = value.0 }
+index_reply (Err why) = record { number = number_of why; position = position_of why; index = 0 }
 
 -- the words written stand in the slice that was lent
-unfoldable pub write_reply : WriteAnswer → WriteReply
-write_reply W.Written = record { number = 0; position = 0 }
-write_reply (W.Refused why) = record { number = number_of why; position = position_of why }
+abbrev pub write_reply : Result (Unit {0}) Refusal → WriteReply
+write_reply (Ok _) = record { number = 0; position = 0 }
+write_reply (Err why) = record { number = number_of why; position = position_of why }

@@ -2,11 +2,12 @@
 ghost use Rattle.std.specs.Prelude.{◌≡◌};
 ghost use Rattle.taripomune.specs.BatchReply.{batch_reply};
 
-use batch::counts::BatchAnswer;
+use batch::counts::Counts;
+use fields::refusal::Refusal;
 
 // multiplications of elements and inversions
 #[repr(C)]
-#[derive(Clone, Copy)]
+#[derive(Clone, Copy, Default)]
 pub struct BatchReply {
     pub number: u32,
     pub position: u64,
@@ -14,21 +15,17 @@ pub struct BatchReply {
     pub inversions: u64,
 }
 
-pub fn batch_reply(answer: BatchAnswer) -> BatchReply
-    ensures { result ≡ batch_reply answer }
-{
-    match answer {
-        BatchAnswer::Value(counts) => BatchReply {
-            number: 0,
-            position: 0,
-            multiplications: counts.multiplications,
-            inversions: counts.inversions,
-        },
-        BatchAnswer::Refused(why) => BatchReply {
-            number: why.number(),
-            position: why.position(),
-            multiplications: 0,
-            inversions: 0,
-        },
+impl From<Result<Counts, Refusal>> for BatchReply {
+    ghost from_gives = { λ answer reply. reply ≡ batch_reply answer };
+
+    fn from(answer: Result<Counts, Refusal>) -> Self {
+        match answer {
+            Ok(counts) => Self {
+                multiplications: counts.multiplications,
+                inversions: counts.inversions,
+                ..Self::default()
+            },
+            Err(why) => refused!(why),
+        }
     }
 }

@@ -6,23 +6,22 @@ ghost use Rattle.domains.specs.Canonic.{at_answer};
 ghost use Rattle.taripomune.specs.Reply.{u32_reply, u64_reply, point_reply, index_reply};
 ghost use Rattle.taripomune.specs.CosetReply.{canonic_of_numbers, coset_reply, canonic_coset_reply, circle_domain_reply};
 
-use crate::coset_reply::{CosetReply, canonic_coset_reply, circle_domain_reply, coset_reply};
+use crate::coset_reply::CosetReply;
 use crate::records::canonic_coset;
-use crate::reply::{
-    IndexReply, PointReply, U32Reply, U64Reply, index_reply, point_reply, u32_reply, u64_reply,
-};
+use crate::reply::{IndexReply, PointReply, U32Reply, U64Reply};
 use domains::canonic::CanonicCoset;
+use domains::record::CosetRecord;
 
 pub fn tari_canonic_coset_try_new(log_size: u32) -> CosetReply
     ensures { result ≡ canonic_coset_reply (try_new_answer log_size) }
 {
-    canonic_coset_reply(CanonicCoset::try_new(log_size))
+    CanonicCoset::try_new(log_size).into()
 }
 
 pub fn tari_canonic_coset_new(log_size: u32) -> CosetReply
     ensures { result ≡ canonic_coset_reply (try_new_answer log_size) }
 {
-    canonic_coset_reply(CanonicCoset::new(log_size))
+    CanonicCoset::new(log_size).into()
 }
 
 pub fn tari_canonic_coset_coset(
@@ -46,7 +45,7 @@ pub fn tari_canonic_coset_coset(
         step_y,
         log_size,
     );
-    coset_reply(c.coset())
+    c.coset().into()
 }
 
 pub fn tari_canonic_coset_half_coset(
@@ -70,7 +69,7 @@ pub fn tari_canonic_coset_half_coset(
         step_y,
         log_size,
     );
-    coset_reply(c.half_coset())
+    c.half_coset().into()
 }
 
 pub fn tari_canonic_coset_circle_domain(
@@ -94,7 +93,7 @@ pub fn tari_canonic_coset_circle_domain(
         step_y,
         log_size,
     );
-    circle_domain_reply(c.circle_domain())
+    c.circle_domain().into()
 }
 
 pub fn tari_canonic_coset_log_size(
@@ -118,7 +117,7 @@ pub fn tari_canonic_coset_log_size(
         step_y,
         log_size,
     );
-    u32_reply(c.log_size())
+    c.log_size().into()
 }
 
 pub fn tari_canonic_coset_size(
@@ -142,7 +141,7 @@ pub fn tari_canonic_coset_size(
         step_y,
         log_size,
     );
-    u64_reply(c.size())
+    c.size().into()
 }
 
 pub fn tari_canonic_coset_initial_index(
@@ -166,7 +165,7 @@ pub fn tari_canonic_coset_initial_index(
         step_y,
         log_size,
     );
-    index_reply(c.initial_index())
+    c.initial_index().into()
 }
 
 pub fn tari_canonic_coset_step_size(
@@ -190,7 +189,7 @@ pub fn tari_canonic_coset_step_size(
         step_y,
         log_size,
     );
-    index_reply(c.step_size())
+    c.step_size().into()
 }
 
 pub fn tari_canonic_coset_step(
@@ -214,7 +213,7 @@ pub fn tari_canonic_coset_step(
         step_y,
         log_size,
     );
-    point_reply(c.step())
+    c.step().into()
 }
 
 pub fn tari_canonic_coset_index_at(
@@ -239,7 +238,7 @@ pub fn tari_canonic_coset_index_at(
         step_y,
         log_size,
     );
-    index_reply(c.index_at(i))
+    c.index_at(i).into()
 }
 
 pub fn tari_canonic_coset_at(
@@ -264,5 +263,5 @@ pub fn tari_canonic_coset_at(
         step_y,
         log_size,
     );
-    point_reply(c.at(i))
+    c.at(i).into()
 }

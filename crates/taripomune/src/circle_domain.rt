@@ -8,15 +8,9 @@ ghost use Rattle.taripomune.specs.Reply.{bool_reply, u32_reply, u64_reply, point
 ghost use Rattle.taripomune.specs.CosetReply.{of_numbers, domain_of_numbers, index_iterator_of_numbers};
 ghost use Rattle.taripomune.specs.CosetReply.{circle_domain_reply, index_iterator_reply, circle_domain_step_reply};
 
-use crate::coset_reply::{
-    CircleDomainIndexIteratorReply, CircleDomainStepReply, CosetReply, circle_domain_reply,
-    circle_domain_step_reply, index_iterator_reply,
-};
+use crate::coset_reply::{CircleDomainIndexIteratorReply, CircleDomainStepReply, CosetReply};
 use crate::records::{circle_domain, coset, index_iterator};
-use crate::reply::{
-    BoolReply, IndexReply, PointReply, U32Reply, U64Reply, bool_reply, index_reply, point_reply,
-    u32_reply, u64_reply,
-};
+use crate::reply::{BoolReply, IndexReply, PointReply, U32Reply, U64Reply};
 use circle::index::CirclePointIndex;
 use domains::domain::CircleDomain;
 
@@ -41,7 +35,7 @@ pub fn tari_circle_domain_new(
         step_y,
         log_size,
     );
-    circle_domain_reply(CircleDomain::new(half_coset))
+    CircleDomain::new(half_coset).into()
 }
 
 pub fn tari_circle_domain_iter_indices(
@@ -65,7 +59,7 @@ pub fn tari_circle_domain_iter_indices(
         step_y,
         log_size,
     );
-    index_iterator_reply(d.iter_indices())
+    d.iter_indices().into()
 }
 
 pub fn tari_circle_domain_size(
@@ -89,7 +83,7 @@ pub fn tari_circle_domain_size(
         step_y,
         log_size,
     );
-    u64_reply(d.size())
+    d.size().into()
 }
 
 pub fn tari_circle_domain_log_size(
@@ -113,7 +107,7 @@ pub fn tari_circle_domain_log_size(
         step_y,
         log_size,
     );
-    u32_reply(d.log_size())
+    d.log_size().into()
 }
 
 pub fn tari_circle_domain_at(
@@ -138,7 +132,7 @@ pub fn tari_circle_domain_at(
         step_y,
         log_size,
     );
-    point_reply(d.at(i))
+    d.at(i).into()
 }
 
 pub fn tari_circle_domain_index_at(
@@ -163,7 +157,7 @@ pub fn tari_circle_domain_index_at(
         step_y,
         log_size,
     );
-    index_reply(d.index_at(i))
+    d.index_at(i).into()
 }
 
 pub fn tari_circle_domain_is_canonic(
@@ -187,7 +181,7 @@ pub fn tari_circle_domain_is_canonic(
         step_y,
         log_size,
     );
-    bool_reply(d.is_canonic())
+    d.is_canonic().into()
 }
 
 pub fn tari_circle_domain_split(
@@ -219,7 +213,7 @@ pub fn tari_circle_domain_split(
         step_y,
         log_size,
     );
-    circle_domain_reply(d.split(log_parts, shifts))
+    d.split(log_parts, shifts).into()
 }
 
 pub fn tari_circle_domain_shift(
@@ -245,7 +239,7 @@ pub fn tari_circle_domain_shift(
         step_y,
         log_size,
     );
-    circle_domain_reply(d.shift(CirclePointIndex(shift)))
+    d.shift(CirclePointIndex(shift)).into()
 }
 
 pub fn tari_circle_domain_index_iterator_next(
@@ -267,5 +261,5 @@ pub fn tari_circle_domain_index_iterator_next(
         second_step,
         second_remaining,
     );
-    circle_domain_step_reply(it.next())
+    it.next().into()
 }

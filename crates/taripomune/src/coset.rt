@@ -8,40 +8,35 @@ ghost use Rattle.domains.specs.Iterator.{next_answer};
 ghost use Rattle.taripomune.specs.Reply.{bool_reply, u32_reply, u64_reply, point_reply, index_reply};
 ghost use Rattle.taripomune.specs.CosetReply.{of_numbers, iterator_of_numbers, coset_reply, coset_iterator_reply, coset_step_reply};
 
-use crate::coset_reply::{
-    CosetIteratorReply, CosetReply, CosetStepReply, coset_iterator_reply, coset_reply,
-    coset_step_reply,
-};
+use crate::coset_reply::{CosetIteratorReply, CosetReply, CosetStepReply};
 use crate::records::{coset, coset_iterator};
-use crate::reply::{
-    BoolReply, IndexReply, PointReply, U32Reply, U64Reply, bool_reply, index_reply, point_reply,
-    u32_reply, u64_reply,
-};
+use crate::reply::{BoolReply, IndexReply, PointReply, U32Reply, U64Reply};
 use circle::index::CirclePointIndex;
 use domains::coset::Coset;
+use domains::record::CosetRecord;
 
 pub fn tari_coset_new(initial_index: u64, log_size: u32) -> CosetReply
     ensures { result ≡ coset_reply (new_answer (of_index initial_index) log_size) }
 {
-    coset_reply(Coset::new(CirclePointIndex(initial_index), log_size))
+    Coset::new(CirclePointIndex(initial_index), log_size).into()
 }
 
 pub fn tari_coset_subgroup(log_size: u32) -> CosetReply
     ensures { result ≡ coset_reply (subgroup_answer log_size) }
 {
-    coset_reply(Coset::subgroup(log_size))
+    Coset::subgroup(log_size).into()
 }
 
 pub fn tari_coset_odds(log_size: u32) -> CosetReply
     ensures { result ≡ coset_reply (odds_answer log_size) }
 {
-    coset_reply(Coset::odds(log_size))
+    Coset::odds(log_size).into()
 }
 
 pub fn tari_coset_half_odds(log_size: u32) -> CosetReply
     ensures { result ≡ coset_reply (half_odds_answer log_size) }
 {
-    coset_reply(Coset::half_odds(log_size))
+    Coset::half_odds(log_size).into()
 }
 
 pub fn tari_coset_size(
@@ -65,7 +60,7 @@ pub fn tari_coset_size(
         step_y,
         log_size,
     );
-    u64_reply(c.size())
+    c.size().into()
 }
 
 pub fn tari_coset_log_size(
@@ -89,7 +84,7 @@ pub fn tari_coset_log_size(
         step_y,
         log_size,
     );
-    u32_reply(c.log_size())
+    c.log_size().into()
 }
 
 pub fn tari_coset_iter_indices(
@@ -113,7 +108,7 @@ pub fn tari_coset_iter_indices(
         step_y,
         log_size,
     );
-    coset_iterator_reply(c.iter_indices())
+    c.iter_indices().into()
 }
 
 pub fn tari_coset_double(
@@ -137,7 +132,7 @@ pub fn tari_coset_double(
         step_y,
         log_size,
     );
-    coset_reply(c.double())
+    c.double().into()
 }
 
 pub fn tari_coset_repeated_double(
@@ -162,7 +157,7 @@ pub fn tari_coset_repeated_double(
         step_y,
         log_size,
     );
-    coset_reply(c.repeated_double(n_doubles))
+    c.repeated_double(n_doubles).into()
 }
 
 pub fn tari_coset_is_doubling_of(
@@ -204,7 +199,7 @@ pub fn tari_coset_is_doubling_of(
         other_step_y,
         other_log_size,
     );
-    bool_reply(c.is_doubling_of(other))
+    c.is_doubling_of(other).into()
 }
 
 pub fn tari_coset_initial(
@@ -228,7 +223,7 @@ pub fn tari_coset_initial(
         step_y,
         log_size,
     );
-    point_reply(c.initial())
+    c.initial().into()
 }
 
 pub fn tari_coset_index_at(
@@ -253,7 +248,7 @@ pub fn tari_coset_index_at(
         step_y,
         log_size,
     );
-    index_reply(c.index_at(i))
+    c.index_at(i).into()
 }
 
 pub fn tari_coset_at(
@@ -278,7 +273,7 @@ pub fn tari_coset_at(
         step_y,
         log_size,
     );
-    point_reply(c.at(i))
+    c.at(i).into()
 }
 
 pub fn tari_coset_shift(
@@ -304,7 +299,7 @@ pub fn tari_coset_shift(
         step_y,
         log_size,
     );
-    coset_reply(c.shift(CirclePointIndex(shift_size)))
+    c.shift(CirclePointIndex(shift_size)).into()
 }
 
 pub fn tari_coset_conjugate(
@@ -328,12 +323,11 @@ pub fn tari_coset_conjugate(
         step_y,
         log_size,
     );
-    coset_reply(c.conjugate())
+    c.conjugate().into()
 }
 
 pub fn tari_coset_iterator_next(cur: u64, step: u64, remaining: u64) -> CosetStepReply
     ensures { result ≡ coset_step_reply (next_answer (iterator_of_numbers cur step remaining)) }
 {
-    let it = coset_iterator(cur, step, remaining);
-    coset_step_reply(it.next())
+    coset_iterator(cur, step, remaining).next().into()
 }

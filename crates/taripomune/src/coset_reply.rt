@@ -4,16 +4,16 @@ ghost use Rattle.taripomune.specs.CosetReply.{coset_reply, canonic_coset_reply, 
 ghost use Rattle.taripomune.specs.CosetReply.{coset_iterator_reply, coset_step_reply, index_iterator_reply};
 ghost use Rattle.taripomune.specs.CosetReply.{circle_domain_step_reply};
 
-use domains::canonic::CanonicCosetAnswer;
-use domains::coset::CosetAnswer;
-use domains::domain::CircleDomainAnswer;
-use domains::iterator::{
-    CircleDomainIndexIteratorAnswer, CircleDomainStep, CosetIteratorAnswer, CosetStep,
-};
+use circle::index::CirclePointIndex;
+use domains::canonic::CanonicCoset;
+use domains::coset::Coset;
+use domains::domain::CircleDomain;
+use domains::iterator::{CircleDomainIndexIterator, CosetIterator};
+use fields::refusal::Refusal;
 
 // a coset, also that of a canonic coset and the half coset of a circle domain
 #[repr(C)]
-#[derive(Clone, Copy)]
+#[derive(Clone, Copy, Default)]
 pub struct CosetReply {
     pub number: u32,
     pub position: u64,
@@ -26,8 +26,46 @@ pub struct CosetReply {
     pub log_size: u32,
 }
 
+impl From<Result<Coset, Refusal>> for CosetReply {
+    ghost from_gives = { λ answer reply. reply ≡ coset_reply answer };
+
+    fn from(answer: Result<Coset, Refusal>) -> Self {
+        match answer {
+            Ok(c) => Self {
+                initial_index: c.initial_index.0,
+                initial_x: c.initial.x.0,
+                initial_y: c.initial.y.0,
+                step_index: c.step_size.0,
+                step_x: c.step.x.0,
+                step_y: c.step.y.0,
+                log_size: c.log_size,
+                ..Self::default()
+            },
+            Err(why) => refused!(why),
+        }
+    }
+}
+
+// A canonic coset crosses as its coset.
+impl From<Result<CanonicCoset, Refusal>> for CosetReply {
+    ghost from_gives = { λ answer reply. reply ≡ canonic_coset_reply answer };
+
+    fn from(answer: Result<CanonicCoset, Refusal>) -> Self {
+        answer.map(|canonic| canonic.coset).into()
+    }
+}
+
+// A circle domain crosses as its half coset.
+impl From<Result<CircleDomain, Refusal>> for CosetReply {
+    ghost from_gives = { λ answer reply. reply ≡ circle_domain_reply answer };
+
+    fn from(answer: Result<CircleDomain, Refusal>) -> Self {
+        answer.map(|domain| domain.half_coset).into()
+    }
+}
+
 #[repr(C)]
-#[derive(Clone, Copy)]
+#[derive(Clone, Copy, Default)]
 pub struct CosetIteratorReply {
     pub number: u32,
     pub position: u64,
@@ -36,9 +74,25 @@ pub struct CosetIteratorReply {
     pub remaining: u64,
 }
 
+impl From<Result<CosetIterator, Refusal>> for CosetIteratorReply {
+    ghost from_gives = { λ answer reply. reply ≡ coset_iterator_reply answer };
+
+    fn from(answer: Result<CosetIterator, Refusal>) -> Self {
+        match answer {
+            Ok(it) => Self {
+                cur: it.cur.0,
+                step: it.step.0,
+                remaining: it.remaining,
+                ..Self::default()
+            },
+            Err(why) => refused!(why),
+        }
+    }
+}
+
 // done is 0 where an index is handed back, with the iterator after it; else 1, with index 0 and the iterator as it was
 #[repr(C)]
-#[derive(Clone, Copy)]
+#[derive(Clone, Copy, Default)]
 pub struct CosetStepReply {
     pub number: u32,
     pub position: u64,
@@ -49,9 +103,27 @@ pub struct CosetStepReply {
     pub remaining: u64,
 }
 
+impl From<Result<(Option<CirclePointIndex>, CosetIterator), Refusal>> for CosetStepReply {
+    ghost from_gives = { λ answer reply. reply ≡ coset_step_reply answer };
+
+    fn from(answer: Result<(Option<CirclePointIndex>, CosetIterator), Refusal>) -> Self {
+        match answer {
+            Ok((index, it)) => Self {
+                done: index.is_none() as u32,
+                index: index.map_or(0, |index| index.0),
+                cur: it.cur.0,
+                step: it.step.0,
+                remaining: it.remaining,
+                ..Self::default()
+            },
+            Err(why) => refused!(why),
+        }
+    }
+}
+
 // the half coset's iterator, then its conjugate's
 #[repr(C)]
-#[derive(Clone, Copy)]
+#[derive(Clone, Copy, Default)]
 pub struct CircleDomainIndexIteratorReply {
     pub number: u32,
     pub position: u64,
@@ -63,9 +135,28 @@ pub struct CircleDomainIndexIteratorReply {
     pub second_remaining: u64,
 }
 
+impl From<Result<CircleDomainIndexIterator, Refusal>> for CircleDomainIndexIteratorReply {
+    ghost from_gives = { λ answer reply. reply ≡ index_iterator_reply answer };
+
+    fn from(answer: Result<CircleDomainIndexIterator, Refusal>) -> Self {
+        match answer {
+            Ok(it) => Self {
+                first_cur: it.first.cur.0,
+                first_step: it.first.step.0,
+                first_remaining: it.first.remaining,
+                second_cur: it.second.cur.0,
+                second_step: it.second.step.0,
+                second_remaining: it.second.remaining,
+                ..Self::default()
+            },
+            Err(why) => refused!(why),
+        }
+    }
+}
+
 // as CosetStepReply
 #[repr(C)]
-#[derive(Clone, Copy)]
+#[derive(Clone, Copy, Default)]
 pub struct CircleDomainStepReply {
     pub number: u32,
     pub position: u64,
@@ -79,182 +170,26 @@ pub struct CircleDomainStepReply {
     pub second_remaining: u64,
 }
 
-pub fn coset_reply(answer: CosetAnswer) -> CosetReply
-    ensures { result ≡ coset_reply answer }
-{
-    match answer {
-        CosetAnswer::Value(c) => CosetReply {
-            number: 0,
-            position: 0,
-            initial_index: c.initial_index.0,
-            initial_x: c.initial.x.0,
-            initial_y: c.initial.y.0,
-            step_index: c.step_size.0,
-            step_x: c.step.x.0,
-            step_y: c.step.y.0,
-            log_size: c.log_size,
-        },
-        CosetAnswer::Refused(why) => CosetReply {
-            number: why.number(),
-            position: why.position(),
-            initial_index: 0,
-            initial_x: 0,
-            initial_y: 0,
-            step_index: 0,
-            step_x: 0,
-            step_y: 0,
-            log_size: 0,
-        },
-    }
-}
+impl From<Result<(Option<CirclePointIndex>, CircleDomainIndexIterator), Refusal>>
+    for CircleDomainStepReply {
+    ghost from_gives = { λ answer reply. reply ≡ circle_domain_step_reply answer };
 
-pub fn canonic_coset_reply(answer: CanonicCosetAnswer) -> CosetReply
-    ensures { result ≡ canonic_coset_reply answer }
-{
-    match answer {
-        CanonicCosetAnswer::Value(c) => {
-            let coset = c.coset;
-            coset_reply(CosetAnswer::Value(coset))
+    fn from(
+        answer: Result<(Option<CirclePointIndex>, CircleDomainIndexIterator), Refusal>,
+    ) -> CircleDomainStepReply {
+        match answer {
+            Ok((index, it)) => CircleDomainStepReply {
+                done: index.is_none() as u32,
+                index: index.map_or(0, |index| index.0),
+                first_cur: it.first.cur.0,
+                first_step: it.first.step.0,
+                first_remaining: it.first.remaining,
+                second_cur: it.second.cur.0,
+                second_step: it.second.step.0,
+                second_remaining: it.second.remaining,
+                ..CircleDomainStepReply::default()
+            },
+            Err(why) => refused!(why),
         }
-        CanonicCosetAnswer::Refused(why) => coset_reply(CosetAnswer::Refused(why)),
-    }
-}
-
-pub fn circle_domain_reply(answer: CircleDomainAnswer) -> CosetReply
-    ensures { result ≡ circle_domain_reply answer }
-{
-    match answer {
-        CircleDomainAnswer::Value(d) => {
-            let half_coset = d.half_coset;
-            coset_reply(CosetAnswer::Value(half_coset))
-        }
-        CircleDomainAnswer::Refused(why) => coset_reply(CosetAnswer::Refused(why)),
-    }
-}
-
-pub fn coset_iterator_reply(answer: CosetIteratorAnswer) -> CosetIteratorReply
-    ensures { result ≡ coset_iterator_reply answer }
-{
-    match answer {
-        CosetIteratorAnswer::Value(it) => CosetIteratorReply {
-            number: 0,
-            position: 0,
-            cur: it.cur.0,
-            step: it.step.0,
-            remaining: it.remaining,
-        },
-        CosetIteratorAnswer::Refused(why) => CosetIteratorReply {
-            number: why.number(),
-            position: why.position(),
-            cur: 0,
-            step: 0,
-            remaining: 0,
-        },
-    }
-}
-
-pub fn coset_step_reply(step: CosetStep) -> CosetStepReply
-    ensures { result ≡ coset_step_reply step }
-{
-    match step {
-        CosetStep::Next(index, it) => CosetStepReply {
-            number: 0,
-            position: 0,
-            done: 0,
-            index: index.0,
-            cur: it.cur.0,
-            step: it.step.0,
-            remaining: it.remaining,
-        },
-        CosetStep::Done(it) => CosetStepReply {
-            number: 0,
-            position: 0,
-            done: 1,
-            index: 0,
-            cur: it.cur.0,
-            step: it.step.0,
-            remaining: it.remaining,
-        },
-        CosetStep::Refused(why) => CosetStepReply {
-            number: why.number(),
-            position: why.position(),
-            done: 0,
-            index: 0,
-            cur: 0,
-            step: 0,
-            remaining: 0,
-        },
-    }
-}
-
-pub fn index_iterator_reply(
-    answer: CircleDomainIndexIteratorAnswer,
-) -> CircleDomainIndexIteratorReply
-    ensures { result ≡ index_iterator_reply answer }
-{
-    match answer {
-        CircleDomainIndexIteratorAnswer::Value(it) => CircleDomainIndexIteratorReply {
-            number: 0,
-            position: 0,
-            first_cur: it.first.cur.0,
-            first_step: it.first.step.0,
-            first_remaining: it.first.remaining,
-            second_cur: it.second.cur.0,
-            second_step: it.second.step.0,
-            second_remaining: it.second.remaining,
-        },
-        CircleDomainIndexIteratorAnswer::Refused(why) => CircleDomainIndexIteratorReply {
-            number: why.number(),
-            position: why.position(),
-            first_cur: 0,
-            first_step: 0,
-            first_remaining: 0,
-            second_cur: 0,
-            second_step: 0,
-            second_remaining: 0,
-        },
-    }
-}
-
-pub fn circle_domain_step_reply(step: CircleDomainStep) -> CircleDomainStepReply
-    ensures { result ≡ circle_domain_step_reply step }
-{
-    match step {
-        CircleDomainStep::Next(index, it) => CircleDomainStepReply {
-            number: 0,
-            position: 0,
-            done: 0,
-            index: index.0,
-            first_cur: it.first.cur.0,
-            first_step: it.first.step.0,
-            first_remaining: it.first.remaining,
-            second_cur: it.second.cur.0,
-            second_step: it.second.step.0,
-            second_remaining: it.second.remaining,
-        },
-        CircleDomainStep::Done(it) => CircleDomainStepReply {
-            number: 0,
-            position: 0,
-            done: 1,
-            index: 0,
-            first_cur: it.first.cur.0,
-            first_step: it.first.step.0,
-            first_remaining: it.first.remaining,
-            second_cur: it.second.cur.0,
-            second_step: it.second.step.0,
-            second_remaining: it.second.remaining,
-        },
-        CircleDomainStep::Refused(why) => CircleDomainStepReply {
-            number: why.number(),
-            position: why.position(),
-            done: 0,
-            index: 0,
-            first_cur: 0,
-            first_step: 0,
-            first_remaining: 0,
-            second_cur: 0,
-            second_step: 0,
-            second_remaining: 0,
-        },
     }
 }

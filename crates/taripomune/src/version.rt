@@ -1,14 +1,12 @@
 // The version of the C interface, TARI_VERSION of the header.
-ghost use Rattle.std.specs.Prelude.{◌≡◌};
-ghost use Rattle.fields.specs.declared.answer.U32Answer.TheVariants.{Value};
+ghost use Rattle.std.specs.Prelude.{◌≡◌, Ok};
 ghost use Rattle.taripomune.specs.Reply.{u32_reply};
 ghost use Rattle.taripomune.specs.Version.{version};
 
-use crate::reply::{U32Reply, u32_reply};
-use fields::answer::U32Answer;
+use crate::reply::U32Reply;
 
 pub fn tari_version() -> U32Reply
-    ensures { result ≡ u32_reply (Value version) }
+    ensures { result ≡ u32_reply (Ok version) }
 {
-    u32_reply(U32Answer::Value(4))
+    Ok(4).into()
 }

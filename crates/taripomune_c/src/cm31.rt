@@ -1,26 +1,25 @@
 // CM31 by its words, and its calls with M31 (fields::cm31).
-ghost use Rattle.std.specs.Prelude.{◌≡◌, ◌+◌, ◌*◌, ◌^◌};
+ghost use Rattle.std.specs.Prelude.{◌≡◌, ◌+◌, ◌*◌, ◌^◌, Ok};
 ghost use Rattle.fields.specs.Words.{complex_words};
 ghost use Rattle.fields.specs.M31.{of_word};
 ghost use Rattle.fields.specs.CM31.{of_pair, from_pair_answer, from_base_answer, is_zero_answer, add_answer, sub_answer};
 ghost use Rattle.fields.specs.CM31.{neg_answer, mul_answer, square_answer, pow_answer, inverse_answer, div_answer};
 ghost use Rattle.fields.specs.CM31.{conjugate_answer, narrow_answer, add_base_answer, sub_base_answer, mul_base_answer};
 ghost use Rattle.fields.specs.CM31.{div_base_answer, base_sub_answer, base_div_answer};
-ghost use Rattle.fields.specs.declared.cm31.CM31Answer.TheVariants.{Value};
 ghost use Rattle.taripomune.specs.Reply.{m31_reply, bool_reply, cm31_reply};
 
 use taripomune::reply::{BoolReply, CM31Reply, M31Reply};
 
 #[unsafe(no_mangle)]
 pub extern "C" fn tari_cm31_zero() -> CM31Reply
-    ensures { result ≡ cm31_reply (Value (of_pair complex_words.zero)) }
+    ensures { result ≡ cm31_reply (Ok (of_pair complex_words.zero)) }
 {
     taripomune::cm31::tari_cm31_zero()
 }
 
 #[unsafe(no_mangle)]
 pub extern "C" fn tari_cm31_one() -> CM31Reply
-    ensures { result ≡ cm31_reply (Value (of_pair complex_words.one)) }
+    ensures { result ≡ cm31_reply (Ok (of_pair complex_words.one)) }
 {
     taripomune::cm31::tari_cm31_one()
 }

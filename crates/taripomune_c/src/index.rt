@@ -1,22 +1,21 @@
 // Point indices (circle::index).
-ghost use Rattle.std.specs.Prelude.{◌≡◌};
+ghost use Rattle.std.specs.Prelude.{◌≡◌, Ok};
 ghost use Rattle.circle.specs.Index.{of_index, reduce_answer, subgroup_gen_answer, to_point_answer, half_answer, add_answer};
 ghost use Rattle.circle.specs.Index.{sub_answer, neg_answer, mul_answer};
-ghost use Rattle.circle.specs.declared.index.CirclePointIndexAnswer.TheVariants.{Value};
 ghost use Rattle.taripomune.specs.Reply.{point_reply, index_reply};
 
 use taripomune::reply::{IndexReply, PointReply};
 
 #[unsafe(no_mangle)]
 pub extern "C" fn tari_index_zero() -> IndexReply
-    ensures { result ≡ index_reply (Value (of_index 0)) }
+    ensures { result ≡ index_reply (Ok (of_index 0)) }
 {
     taripomune::index::tari_index_zero()
 }
 
 #[unsafe(no_mangle)]
 pub extern "C" fn tari_index_generator() -> IndexReply
-    ensures { result ≡ index_reply (Value (of_index 1)) }
+    ensures { result ≡ index_reply (Ok (of_index 1)) }
 {
     taripomune::index::tari_index_generator()
 }

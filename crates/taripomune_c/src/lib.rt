@@ -1,4 +1,5 @@
-// The static library: each export calls the function of its name in taripomune, and states its clauses again.
+// The static library: each export calls the function of its name in taripomune, and states its clauses again, since a crate
+// is a library for other crates or a static library for C.
 #![tactic(auto)]
 
 pub mod batch_inverse;

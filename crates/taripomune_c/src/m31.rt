@@ -1,10 +1,9 @@
 // M31 by its words (fields::m31).
-ghost use Rattle.std.specs.Prelude.{◌≡◌, ◌+◌, ◌*◌, ◌%◌, ◌^◌};
+ghost use Rattle.std.specs.Prelude.{◌≡◌, ◌+◌, ◌*◌, ◌%◌, ◌^◌, Ok};
 ghost use Rattle.algebra.specs.M31.{P};
 ghost use Rattle.fields.specs.M31.{of_word, residue_of, partial_reduce_answer, reduce_answer, from_word_answer, is_zero_answer};
 ghost use Rattle.fields.specs.M31.{add_answer, sub_answer, neg_answer, mul_answer, square_answer, pow_answer, sqn_answer};
 ghost use Rattle.fields.specs.M31.{inverse_answer, div_answer, conjugate_answer};
-ghost use Rattle.fields.specs.declared.m31.M31Answer.TheVariants.{Value};
 ghost use Rattle.taripomune.specs.Reply.{m31_reply, bool_reply};
 
 use taripomune::reply::{BoolReply, M31Reply};
@@ -39,28 +38,28 @@ pub extern "C" fn tari_m31_from_usize(value: u64) -> M31Reply
 
 #[unsafe(no_mangle)]
 pub extern "C" fn tari_m31_from_u32(value: u32) -> M31Reply
-    ensures { result ≡ m31_reply (Value (of_word (value % P))) }
+    ensures { result ≡ m31_reply (Ok (of_word (value % P))) }
 {
     taripomune::m31::tari_m31_from_u32(value)
 }
 
 #[unsafe(no_mangle)]
 pub extern "C" fn tari_m31_from_i32(value: i32) -> M31Reply
-    ensures { result ≡ m31_reply (Value (of_word (residue_of value))) }
+    ensures { result ≡ m31_reply (Ok (of_word (residue_of value))) }
 {
     taripomune::m31::tari_m31_from_i32(value)
 }
 
 #[unsafe(no_mangle)]
 pub extern "C" fn tari_m31_zero() -> M31Reply
-    ensures { result ≡ m31_reply (Value (of_word 0)) }
+    ensures { result ≡ m31_reply (Ok (of_word 0)) }
 {
     taripomune::m31::tari_m31_zero()
 }
 
 #[unsafe(no_mangle)]
 pub extern "C" fn tari_m31_one() -> M31Reply
-    ensures { result ≡ m31_reply (Value (of_word 1)) }
+    ensures { result ≡ m31_reply (Ok (of_word 1)) }
 {
     taripomune::m31::tari_m31_one()
 }

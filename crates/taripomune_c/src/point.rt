@@ -1,5 +1,5 @@
 // Points over M31, x and y (circle::point).
-ghost use Rattle.std.specs.Prelude.{◌≡◌, ◌+◌, ◌*◌, ◌^◌};
+ghost use Rattle.std.specs.Prelude.{◌≡◌, ◌+◌, ◌*◌, ◌^◌, Ok};
 ghost use Rattle.algebra.specs.Circle.{zero_point};
 ghost use Rattle.fields.specs.Words.{words31};
 ghost use Rattle.fields.specs.M31.{of_word};
@@ -7,14 +7,13 @@ ghost use Rattle.circle.specs.Point.{of_point, add_answer, sub_answer, double_an
 ghost use Rattle.circle.specs.Point.{mul_signed_answer, repeated_double_answer, conjugate_answer, antipode_answer};
 ghost use Rattle.circle.specs.Point.{complex_conjugate_answer, log_order_answer};
 ghost use Rattle.circle.specs.SecurePoint.{into_ef_answer};
-ghost use Rattle.circle.specs.declared.point.CirclePointAnswer.TheVariants.{Value};
 ghost use Rattle.taripomune.specs.Reply.{m31_reply, u32_reply, point_reply, secure_point_reply};
 
 use taripomune::reply::{M31Reply, PointReply, SecurePointReply, U32Reply};
 
 #[unsafe(no_mangle)]
 pub extern "C" fn tari_point_zero() -> PointReply
-    ensures { result ≡ point_reply (Value (of_point (zero_point words31))) }
+    ensures { result ≡ point_reply (Ok (of_point (zero_point words31))) }
 {
     taripomune::point::tari_point_zero()
 }

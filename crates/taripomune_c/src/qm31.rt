@@ -1,5 +1,5 @@
 // QM31 by its words, and its calls with M31 and CM31 (fields::qm31).
-ghost use Rattle.std.specs.Prelude.{◌≡◌, [], ◌∷◌, ◌+◌, ◌*◌, ◌%◌, ◌^◌};
+ghost use Rattle.std.specs.Prelude.{◌≡◌, [], ◌∷◌, ◌+◌, ◌*◌, ◌%◌, ◌^◌, Ok};
 ghost use Rattle.algebra.specs.M31.{P};
 ghost use Rattle.fields.specs.Words.{quartic_words};
 ghost use Rattle.fields.specs.M31.{of_word, residue_of};
@@ -9,21 +9,20 @@ ghost use Rattle.fields.specs.QM31.{from_number_answer, is_zero_answer, add_answ
 ghost use Rattle.fields.specs.QM31.{mul_complex_answer, square_answer, pow_answer, inverse_answer, div_answer};
 ghost use Rattle.fields.specs.QM31.{conjugate_answer, narrow_answer, partial_evals_answer, add_base_answer, sub_base_answer};
 ghost use Rattle.fields.specs.QM31.{mul_base_answer, div_base_answer, base_sub_answer, base_div_answer};
-ghost use Rattle.fields.specs.declared.qm31.QM31Answer.TheVariants.{Value};
 ghost use Rattle.taripomune.specs.Reply.{m31_reply, bool_reply, qm31_reply, array_reply};
 
 use taripomune::reply::{BoolReply, M31Reply, QM31Reply};
 
 #[unsafe(no_mangle)]
 pub extern "C" fn tari_qm31_zero() -> QM31Reply
-    ensures { result ≡ qm31_reply (Value (of_pairs quartic_words.zero)) }
+    ensures { result ≡ qm31_reply (Ok (of_pairs quartic_words.zero)) }
 {
     taripomune::qm31::tari_qm31_zero()
 }
 
 #[unsafe(no_mangle)]
 pub extern "C" fn tari_qm31_one() -> QM31Reply
-    ensures { result ≡ qm31_reply (Value (of_pairs quartic_words.one)) }
+    ensures { result ≡ qm31_reply (Ok (of_pairs quartic_words.one)) }
 {
     taripomune::qm31::tari_qm31_one()
 }
@@ -79,14 +78,14 @@ pub extern "C" fn tari_qm31_from_usize(value: u64) -> QM31Reply
 
 #[unsafe(no_mangle)]
 pub extern "C" fn tari_qm31_from_u32(value: u32) -> QM31Reply
-    ensures { result ≡ qm31_reply (Value (of_pairs (of_base (value % P)))) }
+    ensures { result ≡ qm31_reply (Ok (of_pairs (of_base (value % P)))) }
 {
     taripomune::qm31::tari_qm31_from_u32(value)
 }
 
 #[unsafe(no_mangle)]
 pub extern "C" fn tari_qm31_from_i32(value: i32) -> QM31Reply
-    ensures { result ≡ qm31_reply (Value (of_pairs (of_base (residue_of value)))) }
+    ensures { result ≡ qm31_reply (Ok (of_pairs (of_base (residue_of value)))) }
 {
     taripomune::qm31::tari_qm31_from_i32(value)
 }

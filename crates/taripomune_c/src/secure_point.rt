@@ -1,19 +1,18 @@
 // Points over QM31, the words of x and then of y (circle::secure_point).
-ghost use Rattle.std.specs.Prelude.{◌≡◌, ◌+◌, ◌*◌, ◌^◌};
+ghost use Rattle.std.specs.Prelude.{◌≡◌, ◌+◌, ◌*◌, ◌^◌, Ok};
 ghost use Rattle.algebra.specs.Circle.{zero_point};
 ghost use Rattle.fields.specs.Words.{quartic_words};
 ghost use Rattle.fields.specs.QM31.{of_pairs};
 ghost use Rattle.circle.specs.SecurePoint.{of_point, add_answer, sub_answer, double_answer, double_x_answer, mul_answer};
 ghost use Rattle.circle.specs.SecurePoint.{mul_signed_answer, repeated_double_answer, conjugate_answer, antipode_answer};
 ghost use Rattle.circle.specs.SecurePoint.{complex_conjugate_answer, get_point_answer};
-ghost use Rattle.circle.specs.declared.secure_point.SecureCirclePointAnswer.TheVariants.{Value};
 ghost use Rattle.taripomune.specs.Reply.{qm31_reply, secure_point_reply};
 
 use taripomune::reply::{QM31Reply, SecurePointReply};
 
 #[unsafe(no_mangle)]
 pub extern "C" fn tari_secure_point_zero() -> SecurePointReply
-    ensures { result ≡ secure_point_reply (Value (of_point (zero_point quartic_words))) }
+    ensures { result ≡ secure_point_reply (Ok (of_point (zero_point quartic_words))) }
 {
     taripomune::secure_point::tari_secure_point_zero()
 }
@@ -124,7 +123,8 @@ pub extern "C" fn tari_secure_point_mul(
     scalar_high: u64,
     scalar_low: u64,
 ) -> SecurePointReply
-    ensures { result ≡ secure_point_reply (mul_answer (of_point (((x0, x1), (x2, x3)), ((y0, y1), (y2, y3)))) (scalar_high * 2 ^ 64 + scalar_low)) }
+    ensures { result ≡ secure_point_reply (mul_answer (of_point (((x0, x1), (x2, x3)), ((y0, y1), (y2, y3))))
+        (scalar_high * 2 ^ 64 + scalar_low)) }
 {
     taripomune::secure_point::tari_secure_point_mul(
         x0,

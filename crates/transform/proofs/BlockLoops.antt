@@ -7,8 +7,8 @@ use native.Mathlib.Omega.{arith}
 use lib.ListN.{length, take, drop, length-drop}
 use lib.Seq.{length-take-le, take-append-add, take_at}
 use Rattle.column.specs.Blocks.{blocks, Keeps, blocks-length, blocks_next}
-use Rattle.transform.specs.Tree.{Words, PartlyReduced, reduced_words}
-use Rattle.transform.proofs.WordLaws.{words_append}
+use Rattle.transform.specs.Tree.{Each, PartlyReduced, reduced_words}
+use Rattle.transform.proofs.WordLaws.{each_append}
 use Rattle.transform.proofs.Partly.{partly_take, partly_drop, partly_spliced, reduced-length, reduced-part, reduced_spliced}
 
 -- F on the blocks of w words of c, from number i on, count of them
@@ -105,13 +105,13 @@ module _ (count w : ℕ) (F : ℕ → List ℕ → List ℕ) (i : ℕ) (c : List
       partly = partly_spliced start (end - start) column q t.partly p;
     }
 
--- words below P stay so where a part of m words after the first n is rewritten by such words
-pub spliced_prefix : (column q rest : List ℕ) (n m s : ℕ) → n ≤ length column → length q ≡ m → s ≡ n + m → Words (take n column) → Words q
-    → Words (take s (take n column ++ (q ++ rest)))
-spliced_prefix column q rest n m s h e es wc wq =
+-- a property of the first n words is one of n + m where the m words after them are rewritten by such words
+pub spliced_prefix : (fits : ℕ → Type 0) → fits 0 → (column q rest : List ℕ) (n m s : ℕ) → n ≤ length column → length q ≡ m → s ≡ n + m
+    → Each fits (take n column) → Each fits q → Each fits (take s (take n column ++ (q ++ rest)))
+spliced_prefix fits none column q rest n m s h e es wc wq =
     let first : length (take n column) ≡ n = length-take-le n column h in
     let at : s ≡ length (take n column) + m = omega arith in
     let is : take s (take n column ++ (q ++ rest)) ≡ take n column ++ q =
     ap (λ (k : ℕ). take k (take n column ++ (q ++ rest))) at ∙ take-append-add (take n column) (q ++ rest) m ∙ ap (λ (l : List ℕ).
     take n column ++ l) (take_at q rest m e) in
-    λ k. rw is (words_append (take n column) q wc wq k)
+    λ k. rw is (each_append fits none (take n column) q wc wq k)

@@ -1,13 +1,13 @@
 -- Two parts of four words, rewritten one after the other.
-use Prim.Native.Nat.{ℕ, ◌+◌, ◌-◌, ◌%◌, ◌≤◌}
+use Prim.Native.Nat.{ℕ, ◌+◌, ◌-◌, ◌%◌}
 use mathlib.Core.Path.{◌≡◌, refl, sym, ◌∙◌, ap, ap₂, subst}
 use mathlib.Core.List.{List, ◌++◌, append-nil, map-append}
 use native.Mathlib.Omega.{arith}
 use lib.ListN.{length, take, drop, length-append, length-drop, drop_of_length-le}
 use lib.Seq.{length-take-le, take_at, drop_at, take_all}
 use Rattle.algebra.specs.M31.{P}
-use Rattle.transform.specs.Tree.{Words, PartlyReduced, reduced_words}
-use Rattle.transform.proofs.WordLaws.{each_append, words_append, words_take, words-drop}
+use Rattle.transform.specs.Tree.{Each, PartlyReduced, reduced_words}
+use Rattle.transform.proofs.WordLaws.{each_append}
 use Rattle.transform.proofs.Partly.{partly_drop, reduced-take, reduced-drop}
 
 module _ (l : List ℕ) (e : length l ≡ 8) where
@@ -39,17 +39,17 @@ module _ (l : List ℕ) (e : length l ≡ 8) where
         ∙ ap₂ ◌++◌ ef (append-nil r ∙ eg ∙ ap g second)
 
     -- the same on what partly reduced words stand for
-    pub partly_parts : (f g : List ℕ → List ℕ) (r : List ℕ) → reduced_words q ≡ f (reduced_words (take (4 - 0) (drop 0 l))) →
-        PartlyReduced q
-        → reduced_words r ≡ g (reduced_words (take (8 - 4) (drop 4 middle))) → PartlyReduced r
+    pub partly_parts : (f g : List ℕ → List ℕ) (fits : ℕ → Type 0) → fits 0 → (r : List ℕ)
+        → reduced_words q ≡ f (reduced_words (take (4 - 0) (drop 0 l))) → Each fits q
+        → reduced_words r ≡ g (reduced_words (take (8 - 4) (drop 4 middle))) → Each fits r
         → (reduced_words (take 4 middle ++ (r ++ drop (8 - 4) (drop 4 middle))) ≡ f (take 4 (reduced_words l)) ++ g
         (drop 4 (reduced_words l)))
-        × PartlyReduced (take 4 middle ++ (r ++ drop (8 - 4) (drop 4 middle)))
-    partly_parts f g r ef pq eg pr =
+        × Each fits (take 4 middle ++ (r ++ drop (8 - 4) (drop 4 middle)))
+    partly_parts f g fits none r ef pq eg pr =
         let parts = both_parts (λ (d : List ℕ). q) (λ (d : List ℕ). r) r refl refl in (
           ap reduced_words parts ∙ map-append (λ (w : ℕ). w % P) q r
               ∙ ap₂ ◌++◌ (ef ∙ ap f (reduced-take 4 l)) (eg ∙ ap (λ (d : List ℕ). g (reduced_words d)) second ∙ ap g (reduced-drop 4 l)),
-          subst PartlyReduced (sym parts) (each_append (λ (w : ℕ). w ≤ P) (omega arith) q r pq pr),
+          subst (Each fits) (sym parts) (each_append fits none q r pq pr),
         )
 
 -- four words and four words
@@ -59,7 +59,3 @@ pub eight-length : (f g : List ℕ → List ℕ) → ((d : List ℕ) → length 
 eight-length f g kf kg d e =
     length-append (f (take 4 d)) (g (drop 4 d))
     ∙ ap₂ ◌+◌ (kf (take 4 d) (length-take-le 4 d (omega arith))) (kg (drop 4 d) (length-drop 4 d ∙ omega arith))
-
-pub eight-words : (f g : List ℕ → List ℕ) → ((d : List ℕ) → Words d → Words (f d)) → ((d : List ℕ) → Words d → Words (g d))
-    → (d : List ℕ) → Words d → Words (f (take 4 d) ++ g (drop 4 d))
-eight-words f g wf wg d w = words_append (f (take 4 d)) (g (drop 4 d)) (wf (take 4 d) (words_take 4 d w)) (wg (drop 4 d) (words-drop 4 d w))

@@ -1,38 +1,26 @@
 -- The steps that fill the tree: points by additions, then the levels above by doubling.
-use Prim.Native.Nat.{ℕ, suc, ◌+◌, ◌-◌, ◌*◌, ◌/◌, ◌%◌, ◌^◌, ◌≤◌, ◌<◌}
-use mathlib.Core.Path.{◌≡◌, refl, sym, ◌∙◌, ap, ap₂}
+use Prim.Native.Nat.{ℕ, suc, ◌+◌, ◌-◌, ◌*◌, ◌/◌, ◌^◌, ◌≤◌, ◌<◌}
+use mathlib.Core.Path.{◌≡◌, sym, ◌∙◌, ap, ap₂}
 use mathlib.Core.List.{List, ◌++◌}
 use native.Mathlib.Nat as N
 use native.Mathlib.Decide.{dec_lt}
 use native.Mathlib.Omega.{arith}
-use lib.ListN.{length, get_or, set, take, drop, length-set, get_or-append}
-use lib.Seq.{get_or-set_same, get_or-set_other, get_or-append-add, length-take-le}
+use lib.ListN.{length, get_or, set, take, drop, get_or-append}
+use lib.Seq.{get_or-append-add, length-take-le}
 use lib.Pow as W
 use borrow.Rule.Slice.PartMut.{mid_of, put_mid, mid_len, same_len_mid}
 use Rattle.algebra.specs.M31.{P}
 use Rattle.algebra.specs.Circle.{plus, double_x}
-use Rattle.fields.specs.Words.{add_p, sub_p, mul_p, words31}
-use Rattle.fields.specs.Inverse.{m31_representation}
+use Rattle.fields.specs.Words.{words31}
 use Rattle.circle.specs.Index.{index_point}
 use Rattle.circle.specs.IndexPoints.{index_below}
 use Rattle.domains.specs.BitReversed.{half_index, half_point}
 use Rattle.domains.proofs.BitReversed.{half_further, half_index_start, half_add_quarter}
 use Rattle.domains.proofs.Doubled.{half_double_x}
 use Rattle.circle.specs.Table.{point_at}
-use Rattle.transform.specs.Tree.{LinesFrom, LineTree, Points, Extended, Doubled}
+use Rattle.transform.specs.Tree.{LinesFrom, Points, Extended, Doubled}
 use Rattle.transform.specs.Twiddles.{even_or_odd}
-use Rattle.transform.proofs.Partly.{add_partly, sub_partly}
-use Rattle.transform.proofs.Pairs.{written, written-length, written-first, written_second, written_below}
-
--- ---- a sum of points by their words, where two of the products are partly reduced
-
-pub step_added : (x y a b xx yy xy yx p q : ℕ) → xx ≡ mul_p x a → yy % P ≡ mul_p y b → xy ≡ mul_p x b → yx % P ≡ mul_p y a → p ≡ sub_p xx yy
-    → q ≡ add_p xy yx
-    → ((p, q) ≡ plus words31 (x, y) (a, b)) × ((p < P) × (q < P))
-step_added x y a b xx yy xy yx p q e f g h d s =
-    let first : p ≡ sub_p (mul_p x a) (mul_p y b) = d ∙ sub_partly xx yy (mul_p y b) f ∙ ap (λ (t : ℕ). sub_p t (mul_p y b)) e in
-    let second : q ≡ add_p (mul_p x b) (mul_p y a) = s ∙ add_partly xy yx (mul_p y a) h ∙ ap (λ (t : ℕ). add_p t (mul_p y a)) g in
-    ((λ i. (first i, second i)), (rw first (m31_representation.add-reduced _ _), rw second (m31_representation.add-reduced _ _)))
+use Rattle.transform.proofs.Pairs.{written, written-first, written_second}
 
 -- ---- points count, .., count + c - 1 of a level are added
 
@@ -40,53 +28,6 @@ pub record Adding (count c : ℕ) (step : ℕ × ℕ) (level now : List ℕ) : T
   pub size : length now ≡ length level
   pub kept : (j : ℕ) → j < 2 * count → get_or now j 0 ≡ get_or level j 0
   pub added : (k : ℕ) → k < c → point_at now (count + k) ≡ plus words31 (point_at level k) step
-
-pub none_added : (count : ℕ) (step : ℕ × ℕ) (level : List ℕ) → Adding count 0 step level level
-none_added count step level = record { size = refl; kept = λ j h. refl; added = λ k h. absurd (omega arith) }
-
-module _ {count c : ℕ} {step : ℕ × ℕ} {level now : List ℕ} (a : Adding count c step level now) where
-  pub source_below : ((j : ℕ) → j < 2 * count → get_or level j 0 < P) → c < count → (get_or now (2 * c) 0 < P) × (get_or now
-      (2 * c + 1) 0 < P)
-  source_below h l =
-      let below : (j : ℕ) → j < 2 * count → get_or now j 0 < P = λ j b. rw (a.kept j b) (h j b) in
-      (below (2 * c) (omega arith), below (2 * c + 1) (omega arith))
-
-  pub added_next : (x y : ℕ) → 4 * count ≤ length level → c < count → (x, y) ≡ plus words31 (point_at now c) step
-      → Adding count (c + 1) step level (written now (2 * (count + c)) x y)
-  added_next x y room l e = record {
-    size = written-length now at x y ∙ a.size;
-    kept = λ j h. written_below now at x y j (omega arith) ∙ a.kept j h;
-    added = λ k h. elim (dec_lt k c) [ yes b ↦ before k b | no g ↦ last k (omega arith) ];
-  }
-    where
-      at : ℕ
-      at = 2 * (count + c)
-
-      after : List ℕ
-      after = written now at x y
-
-      before : (k : ℕ) → k < c → point_at after (count + k) ≡ plus words31 (point_at level k) step
-      before k b =
-          (λ i. (
-            written_below now at x y (2 * (count + k)) (omega arith) i,
-            written_below now at x y (2 * (count + k) + 1) (omega arith) i,
-          ))
-          ∙ a.added k b
-
-      same : point_at now c ≡ point_at level c
-      same = λ i. (a.kept (2 * c) (omega arith) i, a.kept (2 * c + 1) (omega arith) i)
-
-      last : (k : ℕ) → k ≡ c → point_at after (count + k) ≡ plus words31 (point_at level k) step
-      last k q =
-          ap (λ (k : ℕ). point_at after (count + k)) q
-          ∙ (λ i. (written-first now at x y (omega (arith, a.size)) i, written_second now at x y (omega (arith, a.size)) i))
-          ∙ e ∙ ap (λ (p : ℕ × ℕ). plus words31 p step) same ∙ ap (λ (k : ℕ). plus words31 (point_at level k) step) (sym q)
-
-  pub all_added : count ≤ c → Extended count step level now
-  all_added h = record {
-    kept = λ k l i. (a.kept (2 * k) (omega arith) i, a.kept (2 * k + 1) (omega arith) i);
-    added = λ k l. a.added k (omega arith);
-  }
 
 -- ---- the last level: every fourth point of the half coset
 
@@ -133,35 +74,6 @@ pub record Doubling (first b : ℕ) (tree now : List ℕ) : Type 0 where
   pub size : length now ≡ length tree
   pub doubled : (j : ℕ) → first ≤ j → j < first + b → get_or now j 0 ≡ double_x words31 (get_or tree (2 * j) 0)
   pub kept : (j : ℕ) → first + b ≤ j → get_or now j 0 ≡ get_or tree j 0
-
-pub none_doubled : (first : ℕ) (tree : List ℕ) → Doubling first 0 tree tree
-none_doubled first tree = record { size = refl; doubled = λ j lo hi. absurd (omega arith); kept = λ j h. refl }
-
-module _ {first b : ℕ} {tree now : List ℕ} (d : Doubling first b tree now) where
-  pub child_below : ((j : ℕ) → 2 * first ≤ j → j < 4 * first → get_or tree j 0 < P) → b < first → get_or now (2 * (first + b)) 0 < P
-  child_below h l = rw (d.kept (2 * (first + b)) (omega arith)) (h (2 * (first + b)) (omega arith) (omega arith))
-
-  pub doubled_next : (x : ℕ) → 4 * first ≤ length tree → b < first → x ≡ double_x words31 (get_or now (2 * (first + b)) 0)
-      → Doubling first (b + 1) tree (set now (first + b) x)
-  doubled_next x room l e = record {
-    size = length-set now node x ∙ d.size;
-    doubled = λ j lo hi. elim (dec_lt j node) [
-      | yes h ↦ get_or-set_other now node j x 0 (λ q. omega arith) ∙ d.doubled j lo h
-      | no g ↦ last j (omega arith)
-    ];
-    kept = λ j h. get_or-set_other now node j x 0 (λ q. omega arith) ∙ d.kept j (omega arith);
-  }
-    where
-      node : ℕ
-      node = first + b
-
-      last : (j : ℕ) → j ≡ node → get_or (set now node x) j 0 ≡ double_x words31 (get_or tree (2 * j) 0)
-      last j q =
-          ap (λ (j : ℕ). get_or (set now node x) j 0) q ∙ get_or-set_same now node x 0 (omega (arith, d.size)) ∙ e
-          ∙ ap (double_x words31) (d.kept (2 * node) (omega arith)) ∙ ap (λ (j : ℕ). double_x words31 (get_or tree (2 * j) 0)) (sym q)
-
-  pub all_doubled : b ≡ first → Doubled first tree now
-  all_doubled e = record { doubled = λ j lo hi. d.doubled j lo (omega arith); kept = λ j h. d.kept j (omega arith) }
 
 -- ---- the level above
 
@@ -267,13 +179,3 @@ module _ (n : ℕ) (tree : List ℕ) (given : (3 ≤ n) × (n ≤ 30) × (2 * le
 
       pub some_nodes : 1 < length filled
       some_nodes = omega (arith, filled-size, eight, W.pow_pos (n - 3))
-
-      pub whole_tree : LinesFrom n 0 filled → LineTree n (set filled 0 (get_or filled 1 0))
-      whole_tree t = record {
-        size = ap (λ (l : ℕ). 2 * l) (length-set filled 0 root ∙ filled-size) ∙ given.2;
-        lines = λ k b a l h. get_or-set_other filled 0 (2 ^ k + b) root 0 (λ e. omega (arith, W.pow_pos k)) ∙ t k b a l h;
-        copied = get_or-set_same filled 0 root 0 (omega (arith, some_nodes)) ∙ sym (get_or-set_other filled 0 1 root 0 (λ e. omega arith));
-      }
-        where
-          root : ℕ
-          root = get_or filled 1 0

@@ -12,8 +12,8 @@ use Rattle.column.specs.Butterflies.{butterflies, evaluate_block, inverse_butter
 use Rattle.column.specs.Inverse.{interpolate_length, scaled-length, scaled-append}
 use Rattle.column.specs.Blocks.{butterflies-length, two_blocks, layer_block, inverse_block}
 use Rattle.transform.specs.Tree.{Words, PartlyReduced, reduced_words, node_twiddle, Block}
-use Rattle.transform.proofs.WordLaws.{words_take, words-drop, words-scaled}
-use Rattle.transform.proofs.Partly.{partly_take, partly_drop, reduced-length, reduced_below, reduced-take, reduced-drop}
+use Rattle.transform.proofs.WordLaws.{words-drop, words-scaled}
+use Rattle.transform.proofs.Partly.{partly_take, partly_drop, reduced-length, reduced_below, reduced-take, reduced-drop, stands_for}
 use Rattle.transform.proofs.Layers.{line_node}
 use Rattle.transform.proofs.Scaling.{butterflies-multiple}
 
@@ -84,15 +84,14 @@ module _ (c tree : List ℕ) (i k : ℕ) (b : Block c tree i k) (big : 14 < k) (
     size = e ∙ half_power;
     room = child_room j h;
     words = w;
-    twiddles = b.twiddles;
   }
 
   -- ---- evaluation: the butterflies, then the halves
 
-  module _ (column : List ℕ) (is : reduced_words column ≡ butterflies words31 half (get_or tree i 0) c) (partly : PartlyReduced
-      column) where
+  module _ (column : List ℕ) (w : ℕ) (node : w ≡ get_or tree i 0) (is : reduced_words column ≡ butterflies words31 half w c)
+      (partly : PartlyReduced column) where
     pub column_size : length column ≡ half + half
-    column_size = sym (reduced-length column) ∙ ap length is ∙ butterflies-length words31 half (get_or tree i 0) c halves_size
+    column_size = sym (reduced-length column) ∙ ap length is ∙ butterflies-length words31 half w c halves_size
 
     partly_block : (d : List ℕ) (j : ℕ) → j ≤ 2 * i + 1 → length d ≡ half → PartlyReduced d
         → Block (reduced_words d) tree j (k - 1) × PartlyReduced d
@@ -126,14 +125,11 @@ module _ (c tree : List ℕ) (i k : ℕ) (b : Block c tree i k) (big : 14 < k) (
           ∙ ap (evaluate_block words31 (k - 1) (node_twiddle tree) (2 * i + 1)) (reduced-drop half column))
           ∙ ap (two_blocks half (evaluate_block words31 (k - 1) (node_twiddle tree)) i) is
           ∙ ap₂ (λ (h w : ℕ). two_blocks h (evaluate_block words31 (k - 1) (node_twiddle tree)) i (butterflies words31 h w c)) half_power
-          (line_node tree (k - 1) i (omega arith))
+          (node ∙ line_node tree (k - 1) i (omega arith))
           ∙ layer_block words31 (node_twiddle tree) (k - 1) i c (b.size ∙ pow-two_halves)
           ∙ ap (λ (n : ℕ). evaluate_block words31 n (node_twiddle tree) i c) (sym less)
 
   -- ---- interpolation: the halves, then the inverse butterflies
-
-  pub lower_block : Block (take half c) tree (2 * i) (k - 1)
-  lower_block = half_block (take half c) (2 * i) (omega arith) (lower-length c half halves_size) (words_take half c b.words)
 
   module _ (p : List ℕ) (same : length p ≡ length (take half c)) where
     pub upper_block : Block (take (length (middle c half halves_size p same) - half) (drop half (middle c half halves_size p same))) tree
@@ -177,13 +173,16 @@ module _ (c tree : List ℕ) (i k : ℕ) (b : Block c tree i k) (big : 14 < k) (
       pub joined_words : Words joined
       joined_words w = rw joined_is (words-scaled t blocks w)
 
-      pub block_interpolated : (exit : List ℕ) → exit ≡ inverse_butterflies words31 half (get_or tree i 0) joined
+      pub block_interpolated : (exit : List ℕ) (w : ℕ) → w ≡ get_or tree i 0 → Words exit
+          → reduced_words exit ≡ inverse_butterflies words31 half w (reduced_words joined)
           → exit ≡ scaled words31 t (interpolate_block words31 k (node_twiddle tree) i c)
-      block_interpolated exit e =
-          e ∙ ap (inverse_butterflies words31 half (get_or tree i 0)) joined_is
-          ∙ butterflies-multiple half (get_or tree i 0) t blocks
+      block_interpolated exit w node words e =
+          stands_for (inverse_butterflies words31 half w) exit joined words joined_words e
+          ∙ ap (inverse_butterflies words31 half w) joined_is
+          ∙ butterflies-multiple half w t blocks
           ∙ ap (scaled words31 t)
           (ap₂ (λ (h w : ℕ). inverse_butterflies words31 h w
-          (two_blocks h (interpolate_block words31 (k - 1) (node_twiddle tree)) i c)) half_power (line_node tree (k - 1) i (omega arith))
+          (two_blocks h (interpolate_block words31 (k - 1) (node_twiddle tree)) i c)) half_power
+          (node ∙ line_node tree (k - 1) i (omega arith))
           ∙ inverse_block words31 (node_twiddle tree) (k - 1) i c (b.size ∙ pow-two_halves)
           ∙ ap (λ (n : ℕ). interpolate_block words31 n (node_twiddle tree) i c) (sym less))

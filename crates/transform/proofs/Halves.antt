@@ -5,13 +5,11 @@ use mathlib.Core.List.{List, [], ◌∷◌, ◌++◌, append-nil}
 use native.Mathlib.Nat as N
 use native.Mathlib.Numerals.{add-one}
 use native.Mathlib.Omega.{arith}
-use lib.ListN.{length, get_or, take, drop, set, length-append, length-take, length-drop, take-append-drop, get_or-append, drop_of_length-le}
+use lib.ListN.{length, get_or, take, drop, set, length-append, length-take, length-drop, get_or-append, drop_of_length-le}
 use lib.Seq.{drop-cons, take-suc, set_at, get_or_at, append_snoc}
 use lib.Seq.{length-take-le, set-append_left, get_or-append-add, take_all, get_or-take, get_or-drop}
-use Rattle.algebra.specs.M31.{P}
 use Rattle.column.specs.Butterflies.{on_halves}
 use Rattle.column.specs.Lists.{zip_length, zip-at}
-use Rattle.transform.specs.Tree.{Words}
 
 -- the first i words of l, then those of a
 abbrev pub over : List ℕ → List ℕ → ℕ → List ℕ
@@ -78,9 +76,6 @@ module _ (f g : ℕ → ℕ → ℕ) (c : List ℕ) (half : ℕ) (size : length 
   halves : (h : ℕ → ℕ → ℕ) → length (on_halves h half c) ≡ half
   halves h = zip_length h (take half c) (drop half c) (upper ∙ sym lower) ∙ lower
 
-  pub halfway_start : c ≡ halfway f g c half 0
-  halfway_start = sym (take-append-drop half c)
-
   pub halfway_end : (i : ℕ) → i ≤ half → half ≤ i → halfway f g c half i ≡ on_halves f half c ++ on_halves g half c
   halfway_end i le ge =
       let e : i ≡ half = omega arith in
@@ -104,12 +99,6 @@ module _ (f g : ℕ → ℕ → ℕ) (c : List ℕ) (half : ℕ) (size : length 
         ap (λ (l : List ℕ). get_or l (half + i) 0) e
         ∙ second_at (take half c) (drop half c) (on_halves f half c) (on_halves g half c) half i lower upper (halves f) (halves g) h
         ∙ get_or-drop half c i 0
-
-    pub first_word : Words c → get_or column i 0 < P
-    first_word w = rw first (w i)
-
-    pub second_word : Words c → get_or column (half + i) 0 < P
-    second_word w = rw second (w (half + i))
 
     pair : (k : ℕ → ℕ → ℕ) (x : ℕ) → x ≡ k (get_or column i 0) (get_or column (half + i) 0) → get_or (on_halves k half c) i 0 ≡ x
     pair k x ex =

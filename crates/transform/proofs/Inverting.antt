@@ -18,12 +18,6 @@ use Rattle.transform.specs.Twiddles.{even_or_odd}
 use Rattle.transform.specs.TreeLaws.{neg-mul-neg}
 use Rattle.transform.proofs.Pairs.{written, written-length, written-first, written_second, written_below, written_above}
 
-pub twice_sum : (r q y s : ℕ) → r ≡ add_p q q → q ≡ mul_p y s → (r ≡ mul_p 2 (mul_p y s)) × (r < P)
-twice_sum r q y s e f = (e ∙ add_self_two q ∙ ap (mul_p 2) f, omega arith)
-  where
-    add_self_two : (q : ℕ) → add_p q q ≡ mul_p 2 q
-    add_self_two q = omega arith
-
 pub even_beside : (tree : List ℕ) (i : ℕ) → i % 2 ≡ 0 → get_or tree (i + 1) 0 ≡ beside tree i
 even_beside tree i e = sym (ap (λ (t : Bool). cond t (get_or tree (i + 1) 0) (neg_p (get_or tree (i - 1) 0))) (eq-eqb (i % 2) 0 e))
 

@@ -14,5 +14,5 @@ pub mod SmallSizes
 pub mod Whole
 pub mod Scaling
 pub mod InverseLayers
-pub mod Checks
 pub mod Steps
+pub mod Calls

@@ -51,6 +51,10 @@ pub reduced_same : (l : List ℕ) → Words l → reduced_words l ≡ l
 reduced_same [] w = refl
 reduced_same (x ∷ l) w = ap₂ ◌∷◌ (N.mod-eq_of_lt (w 0)) (reduced_same l (λ k. w (suc k)))
 
+-- words below P are what they stand for
+pub stands_for : (f : List ℕ → List ℕ) (q l : List ℕ) → Words q → Words l → reduced_words q ≡ f (reduced_words l) → q ≡ f l
+stands_for f q l wq wl e = sym (reduced_same q wq) ∙ e ∙ ap f (reduced_same l wl)
+
 pub reduced-set : (l : List ℕ) (i w : ℕ) → reduced_words (set l i w) ≡ set (reduced_words l) i (w % P)
 reduced-set [] i w = refl
 reduced-set (x ∷ l) zero w = refl

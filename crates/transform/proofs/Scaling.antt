@@ -17,7 +17,7 @@ use Rattle.fields.specs.Inverse.{m31_representation}
 use Rattle.column.specs.Butterflies.{on_halves, inverse_sum, inverse_difference, inverse_butterflies, scaled}
 use Rattle.column.specs.Lists.{zip-equal}
 use Rattle.column.specs.Inverse.{scaled-length, scaled-zip, zip-scaled, scaled-append, scaled-take, scaled-drop}
-use Rattle.transform.specs.Tree.{PartlyReduced, reduced_words}
+use Rattle.transform.specs.Tree.{reduced_words}
 use Rattle.transform.proofs.Halves.{over, over-length, over-at, over_next, over_all}
 
 module _ (a s : ℕ) (h : a ≤ P) (hi : s < 31) where
@@ -80,9 +80,6 @@ module _ (t : ℕ) (c : List ℕ) where
     pub before : i ≤ length c
     pub is : column ≡ over c (scaled words31 t c) i
 
-  pub scaled_start : Scaled 0 c
-  scaled_start = record { same = refl; before = omega arith; is = refl }
-
   pub scaled_end : (i : ℕ) (column : List ℕ) → Scaled i column → length column ≤ i → column ≡ scaled words31 t c
   scaled_end i column v h =
       let all : i ≡ length c = omega (arith, v.same, v.before) in
@@ -95,9 +92,6 @@ module _ (t : ℕ) (c : List ℕ) where
 
     next : get_or column i 0 ≡ get_or c i 0
     next = ap (λ (l : List ℕ). get_or l i 0) v.is ∙ over-at c (scaled words31 t c) i (scaled-length words31 t c) inside
-
-    pub next_word : PartlyReduced c → get_or column i 0 ≤ P
-    next_word w = rw next (w i)
 
     pub scaled_next : (x : ℕ) → x ≡ mul_p (get_or column i 0) t → Scaled (i + 1) (set column i x)
     scaled_next x e = record {

@@ -25,25 +25,6 @@ by_points C count each j h =
     (λ e. let at : j ≡ 2 * (j / 2) = omega arith in subst C (sym at) (each (j / 2) (omega arith)).0)
     (λ e. let at : j ≡ 2 * (j / 2) + 1 = omega arith in subst C (sym at) (each (j / 2) (omega arith)).1)
 
-pub first_step : (s : ℕ) (step : ℕ × ℕ) (level : List ℕ) → 1 ≤ s → s < 2 → get_or level 0 0 < P → get_or level 1 0 < P
-    → Stepped s step level level
-first_step s step level lo hi x y = record {
-  below = λ j h. by_points (λ j. get_or level j 0 < P) 1 (λ c l. only c (omega arith)) j (omega (arith, two));
-  points = λ n a b e p. subst (λ (k : ℕ). Points n k level) (sym none) p;
-}
-  where
-    one : s ≡ 1
-    one = omega arith
-
-    two : 2 ^ s ≡ 2
-    two = ap (λ (t : ℕ). 2 ^ t) one
-
-    none : 2 ^ (s - 1) ≡ 1
-    none = ap (λ (t : ℕ). 2 ^ (t - 1)) one
-
-    only : (c : ℕ) → c ≡ 0 → (get_or level (2 * c) 0 < P) × (get_or level (2 * c + 1) 0 < P)
-    only c e = rw e (x, y)
-
 module _ (s count : ℕ) (lo : 2 ≤ s) (two : count ≡ 2 ^ (s - 2)) where
   pub half_points : 2 * count ≡ 2 ^ (s - 1)
   half_points =

@@ -9,15 +9,11 @@ use lib.Seq.{take_at, drop-append-add, drop-drop, length-take-le}
 use Rattle.fields.specs.Words.{words31}
 use Rattle.column.specs.Butterflies.{evaluate_block, interpolate_block, scaled}
 use Rattle.transform.specs.Transform.{values_of, Column, Coefficients}
-use Rattle.transform.specs.Tree.{Words, PartlyReduced, reduced_words, LineTree, node_twiddle, InvertedTree, Block}
+use Rattle.transform.specs.Tree.{PartlyReduced, reduced_words, LineTree, node_twiddle, InvertedTree, Block}
 use Rattle.transform.specs.Elements.{column_words, tree_values, tree_coefficients}
 use Rattle.transform.specs.TreeLaws.{tree_holds, inverse_holds}
 use Rattle.transform.proofs.WordLaws.{words_evaluate, words-scaled}
 use Rattle.transform.proofs.Partly.{partly_words, reduced_same}
-
--- a column of a log size that is known
-pub column_of_lem : (n m : ℕ) (c : List ℕ) → n ≡ m → Column n c → Column m c
-column_of_lem n m c e h = subst (λ (k : ℕ). Column k c) e h
 
 module _ (n : ℕ) (column scratch : List ℕ) (lo : 3 ≤ n) (hi : n ≤ 30) (h : Column n column) (room : 2 ^ n ≤ length scratch) where
   abbrev pub half : ℕ
@@ -45,9 +41,6 @@ module _ (n : ℕ) (column scratch : List ℕ) (lo : 3 ≤ n) (hi : n ≤ 30) (h
     pub tree_taken : take half filled ≡ tree
     tree_taken = take_at tree (drop half scratch) half nodes
 
-    pub taken_length : half ≡ length (take half filled)
-    taken_length = sym (ap length tree_taken ∙ nodes)
-
     pub filled-length : length filled ≡ length scratch
     filled-length = length-append tree (drop half scratch) ∙ omega (arith, nodes, length-drop half scratch, h.size)
 
@@ -60,22 +53,21 @@ module _ (n : ℕ) (column scratch : List ℕ) (lo : 3 ≤ n) (hi : n ≤ 30) (h
         ∙ ap (λ (k : ℕ). drop k scratch) both
 
     -- the whole column is the block below the root
-    pub root_block : Words tree → Block column (take half filled) 1 n
-    root_block w = record {
+    pub root_block : Block column (take half filled) 1 n
+    root_block = record {
       least = lo;
       most = hi;
       size = h.size;
       room = omega (arith, ap length tree_taken, nodes, whole, h.size);
       words = column_words n column h;
-      twiddles = λ k. rw tree_taken (w k);
     }
 
     stands : reduced_words column ≡ column
     stands = reduced_same column (column_words n column h)
 
-    pub evaluation_block : Words tree → Block (reduced_words column) (take half filled) 1 n × PartlyReduced column
-    evaluation_block w =
-        (subst (λ (c : List ℕ). Block c (take half filled) 1 n) (sym stands) (root_block w), partly_words column (column_words n column h))
+    pub evaluation_block : Block (reduced_words column) (take half filled) 1 n × PartlyReduced column
+    evaluation_block =
+        (subst (λ (c : List ℕ). Block c (take half filled) 1 n) (sym stands) root_block, partly_words column (column_words n column h))
 
     pub column_evaluated : LineTree n tree → (exit : List ℕ)
         → exit ≡ evaluate_block words31 n (node_twiddle (take half filled)) 1 (reduced_words column) → exit ≡ values_of n column

@@ -1,35 +1,32 @@
 -- Words stay below P.
 use Prim.Native.Nat.{ℕ, zero, suc, ◌+◌, ◌*◌, ◌^◌, ◌<◌}
 use mathlib.Core.List.{List, [], ◌∷◌, ◌++◌, zip_with}
-use lib.ListN.{get_or, take, drop, set}
+use lib.ListN.{take, drop, set}
 use lib.Seq.{get_or-drop}
 use Rattle.algebra.specs.M31.{P, P_pos}
 use Rattle.fields.specs.Words.{words31}
 use Rattle.fields.specs.Inverse.{m31_representation}
 use Rattle.column.specs.Butterflies.{on_halves, butterfly_sum, butterfly_difference, evaluate_block}
 use Rattle.column.specs.Butterflies.{inverse_sum, inverse_difference, inverse_butterflies, scaled}
-use Rattle.transform.specs.Tree.{Words}
+use Rattle.transform.specs.Tree.{Each, Words}
 
 -- a property of each word; past the end stands 0
 module _ (C : ℕ → Type 0) (none : C 0) where
-  abbrev Each : List ℕ → Type 0
-  Each l = (k : ℕ) → C (get_or l k 0)
-
-  pub each_append : (a b : List ℕ) → Each a → Each b → Each (a ++ b)
+  pub each_append : (a b : List ℕ) → Each C a → Each C b → Each C (a ++ b)
   each_append [] b wa wb k = wb k
   each_append (x ∷ a) b wa wb zero = wa 0
   each_append (x ∷ a) b wa wb (suc k) = each_append a b (λ j. wa (suc j)) wb k
 
-  pub each_take : (n : ℕ) (a : List ℕ) → Each a → Each (take n a)
+  pub each_take : (n : ℕ) (a : List ℕ) → Each C a → Each C (take n a)
   each_take zero a wa k = none
   each_take (suc n) [] wa k = none
   each_take (suc n) (x ∷ a) wa zero = wa 0
   each_take (suc n) (x ∷ a) wa (suc k) = each_take n a (λ j. wa (suc j)) k
 
-  pub each_drop : (n : ℕ) (a : List ℕ) → Each a → Each (drop n a)
+  pub each_drop : (n : ℕ) (a : List ℕ) → Each C a → Each C (drop n a)
   each_drop n a wa k = rw (get_or-drop n a k 0) (wa (n + k))
 
-  pub each_set : (l : List ℕ) (i w : ℕ) → Each l → C w → Each (set l i w)
+  pub each_set : (l : List ℕ) (i w : ℕ) → Each C l → C w → Each C (set l i w)
   each_set [] i w wl cw k = wl k
   each_set (x ∷ l) zero w wl cw zero = cw
   each_set (x ∷ l) zero w wl cw (suc k) = wl (suc k)
@@ -38,9 +35,6 @@ module _ (C : ℕ → Type 0) (none : C 0) where
 
 abbrev pub words_append : (a b : List ℕ) → Words a → Words b → Words (a ++ b)
 words_append = each_append (λ (w : ℕ). w < P) P_pos
-
-abbrev pub words_take : (n : ℕ) (a : List ℕ) → Words a → Words (take n a)
-words_take = each_take (λ (w : ℕ). w < P) P_pos
 
 abbrev pub words-drop : (n : ℕ) (a : List ℕ) → Words a → Words (drop n a)
 words-drop = each_drop (λ (w : ℕ). w < P) P_pos

@@ -1,6 +1,7 @@
 -- The cases that the scope document wants proved one by one, over the definitions that the contracts cite; two with the answers of
 -- order 7, which turned them.
-use Rattle.std.specs.Prelude.{ℕ, zero, suc, ◌-◌, ◌*◌, ◌^◌, ◌≤◌, ◌<◌, ◌≡◌, refl, true, List, [], ◌∷◌, ◌++◌, map, leb, negsuc, length, get_or}
+use Rattle.std.specs.Prelude.{ℕ, zero, suc, ◌-◌, ◌*◌, ◌^◌, ◌≤◌, ◌<◌, ◌≡◌, refl, true, Ok, negsuc}
+use Rattle.std.specs.Prelude.{List, [], ◌∷◌, ◌++◌, map, leb, length, get_or}
 use Rattle.std.proofs.Common.{sym, ◌∙◌, ap, arith, lit<, lit≤, lt-ltb, ne_eqb}
 use Rattle.std.proofs.Math.Nat as N
 use Rattle.algebra.specs.Listing.{listing, listing-at}
@@ -17,27 +18,17 @@ use Rattle.fields.specs.CheckLaws.{hold_both, hold_passes}
 use Rattle.fields.specs.Search.{first}
 use Rattle.fields.specs.Words.{mul_p, words31}
 use Rattle.fields.specs.Inverse.{m31_inverse_unique}
-use Rattle.fields.specs.declared.m31.M31Answer.TheVariants.{Value}
-use Rattle.fields.specs.declared.cm31.CM31Answer.TheVariants as CA
-use Rattle.fields.specs.declared.qm31.QM31Answer.TheVariants as QA
-use Rattle.fields.specs.declared.answer.BoolAnswer.TheVariants as B
-use Rattle.fields.specs.declared.answer.WriteAnswer.TheVariants.{Written}
 use Rattle.fields.specs.declared.refusal.Refusal.TheVariants.{Doublings}
-use Rattle.fields.specs.declared.answer.U64Answer.TheVariants as U
 use Rattle.circle.specs.Point.{of_point}
 use Rattle.circle.specs.Formulas.{antipode}
 use Rattle.circle.specs.IndexPoints.{index_antipode}
 use Rattle.circle.specs.Index.{of_index, index_point, to_point_answer}
-use Rattle.circle.specs.declared.point.CirclePointAnswer.TheVariants as P
-use Rattle.circle.specs.declared.index.CirclePointIndexAnswer.TheVariants as I
 use Rattle.orders.specs.BitReverse.{reverse_bits}
 use Rattle.orders.specs.Orders.{log_size, in_place_answer, in_place_exit, words_at, coset_bit_reversed}
 use Rattle.orders.specs.Orders.{to_domain, offset_element, previous_answer}
-use Rattle.domains.specs.declared.coset.CosetAnswer.TheVariants as K
-use Rattle.domains.specs.declared.domain.CircleDomainAnswer.TheVariants as D
 use Rattle.domains.specs.Listing.{unit, coset_index, domain_indices}
 use Rattle.domains.specs.Record.{check, check_two}
-use Rattle.domains.specs.Coset.{coset_of, subgroup_answer, doubled, double_answer, repeated_double_answer, is_doubling_of_answer}
+use Rattle.domains.specs.Coset.{coset_of, subgroup_answer, doubled, double_answer, is_doubling_of_answer}
 use Rattle.domains.specs.RecordLaws.{fits_hold, two_hold}
 use Rattle.domains.specs.CosetLaws.{made_fits, made_doubled, made_doubling}
 use Rattle.domains.proofs.CanonicDomain.{canonic_domain}
@@ -52,8 +43,7 @@ use Rattle.transform.specs.Theorem.{Promise, theorem}
 -- ---- M31
 
 -- `reduce` accepts P^2 - 1 and gives P - 1
-pub reduce_most : reduce_answer (P * P - 1) ≡ Value (of_word (P - 1))
-unfolding reduce_answer
+pub reduce_most : reduce_answer (P * P - 1) ≡ Ok (of_word (P - 1))
 reduce_most = refl
 
 -- i32 -2^31 gives P - 1
@@ -61,23 +51,21 @@ pub least_i32 : of_word (residue_of (negsuc (2 ^ 31 - 1))) ≡ of_word (P - 1)
 least_i32 = refl
 
 -- (P - 1) times (P - 1) is 1
-pub minus_one_squared : mul_answer (of_word (P - 1)) (of_word (P - 1)) ≡ Value (of_word 1)
-unfolding mul_answer
+pub minus_one_squared : mul_answer (of_word (P - 1)) (of_word (P - 1)) ≡ Ok (of_word 1)
 minus_one_squared = refl
 
-the_inverse : (a b : ℕ) → a < P → ¬ (a ≡ 0) → b < P → mul_p a b ≡ 1 → inverse_answer (of_word a) ≡ Value (of_word b)
-unfolding inverse_answer
-the_inverse a b h n l e = rw (lt-ltb a P h, ne_eqb a 0 n) (ap (λ (t : ℕ). Value (of_word t)) (sym (m31_inverse_unique a b l e)))
+the_inverse : (a b : ℕ) → a < P → ¬ (a ≡ 0) → b < P → mul_p a b ≡ 1 → inverse_answer (of_word a) ≡ Ok (of_word b)
+the_inverse a b h n l e = rw (lt-ltb a P h, ne_eqb a 0 n) (ap (λ (t : ℕ). Ok (of_word t)) (sym (m31_inverse_unique a b l e)))
 
 -- the inverse of 2 is 1073741824
-pub inverse_of_two : inverse_answer (of_word 2) ≡ Value (of_word 1073741824)
+pub inverse_of_two : inverse_answer (of_word 2) ≡ Ok (of_word 1073741824)
 inverse_of_two = the_inverse 2 1073741824 (lit< tt) (λ e. omega arith) (lit< tt) refl
 
 -- ---- indices
 
 -- 2G = (7, 777079998)
-pub twice_generator : to_point_answer (of_index 2) ≡ P.Value (of_point (7, 777079998))
-unfolding to_point_answer multiple
+pub twice_generator : to_point_answer (of_index 2) ≡ Ok (of_point (7, 777079998))
+unfolding multiple
 twice_generator = refl
 
 zero_index : index_point 0 ≡ (1, 0)
@@ -85,35 +73,31 @@ unfolding multiple
 zero_index = refl
 
 -- 2^30 G = (P - 1, 0)
-pub half_order_point : to_point_answer (of_index (2 ^ 30)) ≡ P.Value (of_point (P - 1, 0))
-unfolding to_point_answer
-half_order_point = ap (λ (p : ℕ × ℕ). P.Value (of_point p)) (index_antipode 0 ∙ ap (antipode words31) zero_index)
+pub half_order_point : to_point_answer (of_index (2 ^ 30)) ≡ Ok (of_point (P - 1, 0))
+half_order_point = ap (λ (p : ℕ × ℕ). Ok (of_point p)) (index_antipode 0 ∙ ap (antipode words31) zero_index)
 
 -- ---- cosets and domains
 
 -- `is_doubling_of`: `subgroup(0)` is the doubling of `subgroup(1)`
-pub subgroup_zero : subgroup_answer 0 ≡ K.Value (coset_of 0 0)
-unfolding subgroup_answer
+pub subgroup_zero : subgroup_answer 0 ≡ Ok (coset_of 0 0)
 subgroup_zero = refl
 
-pub subgroup_one : subgroup_answer 1 ≡ K.Value (coset_of 0 1)
-unfolding subgroup_answer
+pub subgroup_one : subgroup_answer 1 ≡ Ok (coset_of 0 1)
 subgroup_one = refl
 
-pub is_doubling : is_doubling_of_answer (coset_of 0 0) (coset_of 0 1) ≡ B.Value true
-unfolding is_doubling_of_answer
+pub is_doubling : is_doubling_of_answer (coset_of 0 0) (coset_of 0 1) ≡ Ok true
 is_doubling =
-    hold_passes (check_two (coset_of 0 0) (coset_of 0 1)) B.Refused _
+    hold_passes (check_two (coset_of 0 0) (coset_of 0 1)) _
     (two_hold (coset_of 0 0) (coset_of 0 1) (made_fits 0 0 (lit< tt) (lit≤ tt)) (made_fits 0 1 (lit< tt) (lit≤ tt)))
-    ∙ ap B.Value (made_doubling 0 0 (lit≤ tt))
+    ∙ ap Ok (made_doubling 0 0 (lit≤ tt))
 
 -- `double` of `subgroup(1)` is `subgroup(0)`, whose step is 0
-pub doubled_subgroup : double_answer (coset_of 0 1) ≡ K.Value (coset_of 0 0)
-unfolding double_answer repeated_double_answer iterate coset_of
+pub doubled_subgroup : double_answer (coset_of 0 1) ≡ Ok (coset_of 0 0)
+unfolding iterate coset_of
 doubled_subgroup =
-    hold_passes (check (coset_of 0 1) ++ need (leb 1 1) Doublings) K.Refused (K.Value (doubled (coset_of 0 1)))
+    hold_passes (check (coset_of 0 1) ++ need (leb 1 1) Doublings) (doubled (coset_of 0 1))
     (hold_both (check (coset_of 0 1)) (need (leb 1 1) Doublings) (fits_hold (coset_of 0 1) (made_fits 0 1 (lit< tt) (lit≤ tt))) (refl, tt))
-    ∙ ap K.Value (made_doubled 0 0 (lit≤ tt))
+    ∙ ap Ok (made_doubled 0 0 (lit≤ tt))
 
 pub step_of_subgroup : (coset_of 0 0).step_size ≡ of_index 0
 unfolding coset_of
@@ -127,10 +111,10 @@ coset_list : listing (2 ^ 3) (coset_index 3) ≡ coset_three
 unfolding listing
 coset_list = refl
 
-pub coset_three_lem : (k : ℕ) → k < 2 ^ 3 → Canonic.index_at_answer (canonic_of 3) k ≡ I.Value (of_index (get_or coset_three k 0))
+pub coset_three_lem : (k : ℕ) → k < 2 ^ 3 → Canonic.index_at_answer (canonic_of 3) k ≡ Ok (of_index (get_or coset_three k 0))
 coset_three_lem k h =
     (canonic_domain 3 (lit≤ tt) (lit≤ tt)).coset_indices k
-    ∙ ap (λ (t : ℕ). I.Value (of_index t)) (sym (listing-at 0 (2 ^ 3) (coset_index 3) k h) ∙ ap (λ (l : List ℕ). get_or l k 0) coset_list)
+    ∙ ap (λ (t : ℕ). Ok (of_index t)) (sym (listing-at 0 (2 ^ 3) (coset_index 3) k h) ∙ ap (λ (l : List ℕ). get_or l k 0) coset_list)
 
 -- the domain 1 5 9 13 15 11 7 3, as `index_at` of the canonic domain gives it
 abbrev domain_three : List ℕ
@@ -140,15 +124,15 @@ domain_list : domain_indices 3 ≡ domain_three
 unfolding domain_indices listing
 domain_list = refl
 
-pub domain_three_lem : (i : ℕ) → i < 2 ^ 3 → index_at_answer (of_half (half_of 3)) i ≡ I.Value (of_index (get_or domain_three i 0))
+pub domain_three_lem : (i : ℕ) → i < 2 ^ 3 → index_at_answer (of_half (half_of 3)) i ≡ Ok (of_index (get_or domain_three i 0))
 domain_three_lem i h =
-    (canonic_domain 3 (lit≤ tt) (lit≤ tt)).indices i h ∙ ap (λ (l : List ℕ). I.Value (of_index (get_or l i 0))) domain_list
+    (canonic_domain 3 (lit≤ tt) (lit≤ tt)).indices i h ∙ ap (λ (l : List ℕ). Ok (of_index (get_or l i 0))) domain_list
 
 -- `is_canonic` of the canonic domain of log size 1 is true
-pub domain_one : circle_domain_answer (canonic_of 1) ≡ D.Value (of_half (half_of 1))
+pub domain_one : circle_domain_answer (canonic_of 1) ≡ Ok (of_half (half_of 1))
 domain_one = (canonic_domain 1 (lit≤ tt) (lit≤ tt)).domain
 
-pub is_canonic_lem : is_canonic_answer (of_half (half_of 1)) ≡ B.Value true
+pub is_canonic_lem : is_canonic_answer (of_half (half_of 1)) ≡ Ok true
 is_canonic_lem = (canonic_domain 1 (lit≤ tt) (lit≤ tt)).is_canonic
 
 -- the case of its definition: the step is 0 and the initial index 2^29
@@ -178,20 +162,18 @@ unfolding in_place_answer in_place_exit first words_at coset_bit_reversed revers
 coset_bits_of_eight = refl
 
 -- previous of 0 with domain 2, eval 3 is 6
-pub previous_of_zero : previous_answer 0 2 3 ≡ U.Value 6
+pub previous_of_zero : previous_answer 0 2 3 ≡ Ok 6
 unfolding previous_answer offset_element reverse_bits
 previous_of_zero = refl
 
 -- ---- extensions
 
 -- (1 + 2i)(3 + 4i) = (P - 5) + 10i
-pub complex-product : C.mul_answer (of_pair (1, 2)) (of_pair (3, 4)) ≡ CA.Value (of_pair (P - 5, 10))
-unfolding C.mul_answer
+pub complex-product : C.mul_answer (of_pair (1, 2)) (of_pair (3, 4)) ≡ Ok (of_pair (P - 5, 10))
 complex-product = refl
 
 -- u times u = 2 + i
-pub u_squared : Q.mul_answer (of_pairs ((0, 0), (1, 0))) (of_pairs ((0, 0), (1, 0))) ≡ QA.Value (of_pairs ((2, 1), (0, 0)))
-unfolding Q.mul_answer
+pub u_squared : Q.mul_answer (of_pairs ((0, 0), (1, 0))) (of_pairs ((0, 0), (1, 0))) ≡ Ok (of_pairs ((2, 1), (0, 0)))
 u_squared = refl
 
 -- ---- transform
@@ -230,11 +212,11 @@ four_sevens = record { size = refl; below = below }
 
 -- n = 2: values 7 7 7 7 give coefficients 7 0 0 0. `interpolate` accepts them with 4 words of scratch or more, and leaves
 -- these coefficients
-pub sevens_accepted : (scratch : ℕ) → 4 ≤ scratch → transform_answer 2 (7 ∷ 7 ∷ 7 ∷ 7 ∷ []) scratch ≡ Written
+pub sevens_accepted : (scratch : ℕ) → 4 ≤ scratch → transform_answer 2 (7 ∷ 7 ∷ 7 ∷ 7 ∷ []) scratch ≡ Ok tt
 sevens_accepted scratch room =
     is_accepted 2 (7 ∷ 7 ∷ 7 ∷ 7 ∷ []) scratch (record { low = lit≤ tt; high = lit≤ tt; words = four_sevens; room = room })
 
-pub sevens_interpolated : (scratch : ℕ) (exit : List ℕ) → transform_answer 2 (7 ∷ 7 ∷ 7 ∷ 7 ∷ []) scratch ≡ Written
+pub sevens_interpolated : (scratch : ℕ) (exit : List ℕ) → transform_answer 2 (7 ∷ 7 ∷ 7 ∷ 7 ∷ []) scratch ≡ Ok tt
     → InterpolateExit (transform_answer 2 (7 ∷ 7 ∷ 7 ∷ 7 ∷ []) scratch) 2 (7 ∷ 7 ∷ 7 ∷ 7 ∷ []) exit → exit ≡ 7 ∷ 0 ∷ 0 ∷ 0 ∷ []
 sevens_interpolated scratch exit e left =
     promise.interpolated scratch exit e left ∙ sym (promise.only (7 ∷ 0 ∷ 0 ∷ 0 ∷ []) sevens_coefficients)

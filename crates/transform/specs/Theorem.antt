@@ -1,13 +1,12 @@
 -- What the transform promises, for every log size from 1 to 30: each list of 2^n values below P comes from exactly one list
 -- of 2^n coefficients below P; interpolation leaves it, and evaluation of it leaves the values, whatever scratch held; the
 -- domain has 2^n different points, x and y below P, exactly those of the circle whose x becomes 0 in n - 1 doublings.
-use Rattle.std.specs.Prelude.{ℕ, ◌^◌, ◌≤◌, ◌≡◌, List, ◌↔◌}
+use Rattle.std.specs.Prelude.{ℕ, ◌^◌, ◌≤◌, ◌≡◌, List, ◌↔◌, Result, Ok}
 use Rattle.std.proofs.Common.{sym, ◌∙◌, subst}
 use Rattle.std.proofs.Math.Path.{ap}
 use Rattle.std.proofs.lemmas.List.{length-map}
 use Rattle.algebra.specs.M31.{m31}
-use Rattle.fields.specs.declared.answer.WriteAnswer.{WriteAnswer}
-use Rattle.fields.specs.declared.answer.WriteAnswer.TheVariants.{Written}
+use Rattle.fields.specs.declared.refusal.Refusal.{Refusal}
 use Rattle.domains.specs.PointSet.{PointSet}
 use Rattle.domains.proofs.PointSet.{point_set_lem}
 use Rattle.column.specs.Column.{values}
@@ -24,13 +23,13 @@ pub record Promise (n : ℕ) (v : List ℕ) : Type 0 where
   pub give : Coefficients n coefficients v
   pub only : (c : List ℕ) → Coefficients n c v → c ≡ coefficients
   -- with 2^n words of scratch or more, and only then, both calls accept (`Accepted`)
-  pub accepted : (scratch : ℕ) → ((transform_answer n v scratch ≡ Written) ↔ (2 ^ n ≤ scratch))
-      × ((transform_answer n coefficients scratch ≡ Written) ↔ (2 ^ n ≤ scratch))
+  pub accepted : (scratch : ℕ) → ((transform_answer n v scratch ≡ Ok tt) ↔ (2 ^ n ≤ scratch))
+      × ((transform_answer n coefficients scratch ≡ Ok tt) ↔ (2 ^ n ≤ scratch))
   -- what an accepted interpolation of the values leaves is that list
-  pub interpolated : (scratch : ℕ) (exit : List ℕ) → transform_answer n v scratch ≡ Written
+  pub interpolated : (scratch : ℕ) (exit : List ℕ) → transform_answer n v scratch ≡ Ok tt
       → InterpolateExit (transform_answer n v scratch) n v exit → exit ≡ coefficients
   -- what an accepted evaluation of it leaves is the values
-  pub evaluated : (scratch : ℕ) → transform_answer n coefficients scratch ≡ Written
+  pub evaluated : (scratch : ℕ) → transform_answer n coefficients scratch ≡ Ok tt
       → evaluate_exit (transform_answer n coefficients scratch) n coefficients ≡ v
   -- the domain's points: words below P, all different, and exactly those named
   pub points : PointSet n
@@ -38,7 +37,7 @@ pub record Promise (n : ℕ) (v : List ℕ) : Type 0 where
 -- ---- proof
 
 module _ (n : ℕ) (lo : 1 ≤ n) (hi : n ≤ 30) where
-  column_accepted : (c : List ℕ) → Column n c → (scratch : ℕ) → (transform_answer n c scratch ≡ Written) ↔ (2 ^ n ≤ scratch)
+  column_accepted : (c : List ℕ) → Column n c → (scratch : ℕ) → (transform_answer n c scratch ≡ Ok tt) ↔ (2 ^ n ≤ scratch)
   column_accepted c h scratch = (
     λ e. (accepted n c scratch e).room,
     λ room. is_accepted n c scratch (record { low = lo; high = hi; words = h; room = room }),
@@ -69,7 +68,8 @@ module _ (n : ℕ) (lo : 1 ≤ n) (hi : n ≤ 30) where
       give = give;
       only = only;
       accepted = λ scratch. (column_accepted v h scratch, column_accepted (words one.coefficients) give.column scratch);
-      interpolated = λ scratch exit e left. only exit (subst (λ (answer : WriteAnswer). InterpolateExit answer n v exit) e left);
-      evaluated = λ scratch e. ap (λ (answer : WriteAnswer). evaluate_exit answer n (words one.coefficients)) e ∙ give.give;
+      interpolated = λ scratch exit e left. only exit
+          (subst (λ (answer : Result (Unit {0}) Refusal). InterpolateExit answer n v exit) e left);
+      evaluated = λ scratch e. ap (λ (answer : Result (Unit {0}) Refusal). evaluate_exit answer n (words one.coefficients)) e ∙ give.give;
       points = point_set_lem n lo hi;
     }

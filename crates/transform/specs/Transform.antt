@@ -1,12 +1,11 @@
 -- The transform on columns of words, and what each call answers and leaves.
-use Rattle.std.specs.Prelude.{ℕ, ◌^◌, ◌<◌, ◌≡◌, List, ◌++◌, leb, eqb, length, get_or, drop}
+use Rattle.std.specs.Prelude.{ℕ, ◌^◌, ◌<◌, ◌≡◌, List, ◌++◌, nat_le, nat_eq, Result, Ok, Err, length, get_or, drop}
 use Rattle.algebra.specs.M31.{P}
 use Rattle.fields.specs.Words.{words31}
-use Rattle.fields.specs.Check.{Checks, need, checked}
+use Rattle.fields.specs.Check.{Checks, need, outcome}
 use Rattle.fields.specs.LogSize.{is_log_size}
 use Rattle.fields.specs.Columns.{words}
-use Rattle.fields.specs.declared.answer.WriteAnswer.{WriteAnswer}
-use Rattle.fields.specs.declared.answer.WriteAnswer.TheVariants.{Written, Refused}
+use Rattle.fields.specs.declared.refusal.Refusal.{Refusal}
 use Rattle.fields.specs.declared.refusal.Refusal.TheVariants.{LogSize, Length}
 use Rattle.circle.specs.Index.{index_point}
 use Rattle.orders.specs.Orders.{bit_reverse_index}
@@ -35,27 +34,27 @@ pub record Coefficients (n : ℕ) (coefficients values : List ℕ) : Type 0 wher
 
 -- a column of exactly 2^n words and scratch of no fewer, else number 8
 abbrev pub lengths : ℕ → List ℕ → ℕ → Checks
-lengths n column scratch = need (eqb (length column) (2 ^ n)) Length ++ need (leb (2 ^ n) scratch) Length
+lengths n column scratch = need (nat_eq (length column) (2 ^ n)) Length ++ need (nat_le (2 ^ n) scratch) Length
 
 -- a log size in 1..30, else number 6; the lengths; words below P, else number 1. Of scratch only the length counts
-unfoldable pub transform_answer : ℕ → List ℕ → ℕ → WriteAnswer
-transform_answer n column scratch = checked (need (is_log_size n) LogSize ++ lengths n column scratch ++ words column) Refused Written
+unfoldable pub transform_answer : ℕ → List ℕ → ℕ → Result (Unit {0}) Refusal
+transform_answer n column scratch = outcome (need (is_log_size n) LogSize ++ lengths n column scratch ++ words column)
 
 -- what an evaluation with this answer leaves of the column
-unfoldable pub evaluate_exit : WriteAnswer → ℕ → List ℕ → List ℕ
-evaluate_exit Written n column = values_of n column
-evaluate_exit (Refused why) n column = column
+unfoldable pub evaluate_exit : Result (Unit {0}) Refusal → ℕ → List ℕ → List ℕ
+evaluate_exit (Ok written) n column = values_of n column
+evaluate_exit (Err why) n column = column
 
 -- what an interpolation with this answer leaves of the column: the coefficients that give it (`Theorem.antt` proves that
 -- there is exactly one such list)
-unfoldable pub InterpolateExit : WriteAnswer → ℕ → List ℕ → List ℕ → Type 0
-InterpolateExit Written n column exit = Coefficients n exit column
-InterpolateExit (Refused why) n column exit = exit ≡ column
+unfoldable pub InterpolateExit : Result (Unit {0}) Refusal → ℕ → List ℕ → List ℕ → Type 0
+InterpolateExit (Ok written) n column exit = Coefficients n exit column
+InterpolateExit (Err why) n column exit = exit ≡ column
 
 -- what a call with this answer leaves of scratch: its first 2^n words end as anything
-unfoldable pub ScratchExit : WriteAnswer → ℕ → List ℕ → List ℕ → Type 0
-ScratchExit Written n scratch exit = (length exit ≡ length scratch) × (drop (2 ^ n) exit ≡ drop (2 ^ n) scratch)
-ScratchExit (Refused why) n scratch exit = exit ≡ scratch
+unfoldable pub ScratchExit : Result (Unit {0}) Refusal → ℕ → List ℕ → List ℕ → Type 0
+ScratchExit (Ok written) n scratch exit = (length exit ≡ length scratch) × (drop (2 ^ n) exit ≡ drop (2 ^ n) scratch)
+ScratchExit (Err why) n scratch exit = exit ≡ scratch
 
 -- what an evaluation leaves of the column and of scratch
 pub record Evaluated (n : ℕ) (column scratch column_exit scratch_exit : List ℕ) : Type 0 where

@@ -1,24 +1,29 @@
 -- The tree of twiddles in scratch, and what the inner functions of the transform leave.
 use Rattle.std.specs.Prelude.{ℕ, zero, suc, ◌+◌, ◌-◌, ◌*◌, ◌/◌, ◌%◌, ◌^◌, ◌≤◌}
-use Rattle.std.specs.Prelude.{◌<◌, ◌≡◌, cond, List, ◌++◌, map, eqb, length, get_or, take, drop}
+use Rattle.std.specs.Prelude.{◌<◌, ◌≡◌, Bool, true, false, cond, List, ◌++◌, map, eqb, length, get_or, take, drop}
 use Rattle.algebra.specs.M31.{P}
 use Rattle.algebra.specs.Circle.{plus, double_x}
 use Rattle.fields.specs.Words.{mul_p, neg_p, words31}
 use Rattle.circle.specs.Index.{index_point}
 use Rattle.circle.specs.Point.{Reduced}
-use Rattle.circle.specs.Table.{point_at, table_words}
+use Rattle.circle.specs.Table.{point_at}
+use Rattle.fields.specs.declared.m31.M31.{M31}
 use Rattle.circle.specs.declared.point.CirclePoint.{CirclePoint}
 use Rattle.domains.specs.BitReversed.{half_point}
 use Rattle.column.specs.Butterflies.{evaluate_block, interpolate_block, scaled}
 use Rattle.transform.specs.Transform.{Coefficients}
 
--- each word is below P; past the end stands 0
+-- a property of each word; past the end stands 0
+abbrev pub Each : (ℕ → Type 0) → List ℕ → Type 0
+Each fits l = (k : ℕ) → fits (get_or l k 0)
+
+-- each word is below P
 abbrev pub Words : List ℕ → Type 0
-Words l = (k : ℕ) → get_or l k 0 < P
+Words = Each (λ w. w < P)
 
 -- Between layers words are reduced only so far that each is at most P, which stands for 0.
 abbrev pub PartlyReduced : List ℕ → Type 0
-PartlyReduced l = (k : ℕ) → get_or l k 0 ≤ P
+PartlyReduced = Each (λ w. w ≤ P)
 
 -- the words below P that such words stand for
 abbrev pub reduced_words : List ℕ → List ℕ
@@ -84,15 +89,14 @@ pub record Extended (count : ℕ) (step : ℕ × ℕ) (level exit : List ℕ) : 
   pub kept : (c : ℕ) → c < count → point_at exit c ≡ point_at level c
   pub added : (c : ℕ) → c < count → point_at exit (count + c) ≡ plus words31 (point_at level c) step
 
--- what adding the steps up to bit s asks: room, a first point, the step of bit s, and the table, which has the others
-pub record Stepping (s : ℕ) (step : CirclePoint) (level table : List ℕ) : Type 0 where
+-- what adding the steps up to bit s asks: room, a first point and the step of bit s
+pub record Stepping (s : ℕ) (step : CirclePoint M31) (level : List ℕ) : Type 0 where
   pub least : 1 ≤ s
   pub most : s ≤ 28
   pub room : 2 ^ s ≤ length level
   pub first_x : get_or level 0 0 < P
   pub first_y : get_or level 1 0 < P
   pub reduced : Reduced step
-  pub is_table : table ≡ table_words
 
 -- the points that the steps up to bit s give, from the first one on; step is that of bit s
 pub record Stepped (s : ℕ) (step : ℕ × ℕ) (level exit : List ℕ) : Type 0 where
@@ -111,16 +115,19 @@ unfoldable pub pair_twiddle : ℕ → ℕ → ℕ → ℕ → ℕ → ℕ
 pair_twiddle w v u zero i = cond (eqb (i % 2) 0) v u
 pair_twiddle w v u (suc t) i = w
 
--- two layers on eight words, below the nodes that hold x and y
+-- the same where the pairs have v and -v, or -v and v
+abbrev pub four_twiddle : Bool → ℕ → ℕ → ℕ → ℕ → ℕ
+four_twiddle negated w v = pair_twiddle w (cond negated (neg_p v) v) (cond negated v (neg_p v))
+
+-- two layers on eight words, below the nodes that hold x and y, by what they make of four words
+abbrev pub of_eight : (Bool → ℕ → ℕ → List ℕ → List ℕ) → ℕ → ℕ → List ℕ → List ℕ
+of_eight of_four x y block = of_four false x y (take 4 block) ++ of_four true y x (drop 4 block)
+
 abbrev pub evaluate_eight : ℕ → ℕ → List ℕ → List ℕ
-evaluate_eight x y block =
-    evaluate_block words31 2 (pair_twiddle x y (neg_p y)) 0 (take 4 block)
-    ++ evaluate_block words31 2 (pair_twiddle y (neg_p x) x) 0 (drop 4 block)
+evaluate_eight = of_eight (λ negated w v. evaluate_block words31 2 (four_twiddle negated w v) 0)
 
 abbrev pub interpolate_eight : ℕ → ℕ → List ℕ → List ℕ
-interpolate_eight x y block =
-    interpolate_block words31 2 (pair_twiddle x y (neg_p y)) 0 (take 4 block)
-    ++ interpolate_block words31 2 (pair_twiddle y (neg_p x) x) 0 (drop 4 block)
+interpolate_eight = of_eight (λ negated w v. interpolate_block words31 2 (four_twiddle negated w v) 0)
 
 -- a block of 2^k words below node i, for k from 3 to 30, and the part of the tree that it needs
 pub record Block (block tree : List ℕ) (i k : ℕ) : Type 0 where
@@ -129,7 +136,6 @@ pub record Block (block tree : List ℕ) (i k : ℕ) : Type 0 where
   pub size : length block ≡ 2 ^ k
   pub room : (i + 1) * 2 ^ k ≤ 4 * length tree
   pub words : Words block
-  pub twiddles : Words tree
 
 -- 2^n times the coefficients of a column of values
 pub record Unscaled (n : ℕ) (column exit : List ℕ) : Type 0 where

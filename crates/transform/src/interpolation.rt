@@ -1,165 +1,93 @@
-// Interpolation by halves: inverse butterflies from the smallest distance up, then the factor 2^-n.
-ghost use Rattle.std.specs.Prelude.{◌≡◌, ◌+◌, ◌*◌, ◌^◌, ◌≤◌, ◌<◌, length, get_or, drop};
+// Interpolation by halves: inverse butterflies from the smallest distance up, then the factor 2^-n. `layers` and `block` take
+// the steps of evaluation in the reverse order, so that these two share none of their code.
+ghost use Rattle.std.specs.Prelude.{◌≡◌, ◌+◌, ◌^◌, ◌≤◌, ◌<◌, length, drop};
+ghost use Rattle.std.proofs.Common.{lit≤};
 ghost use Rattle.algebra.specs.M31.{P};
-ghost use Rattle.fields.specs.Words.{mul_p, neg_p, words31};
+ghost use Rattle.fields.specs.Words.{mul_p, words31};
 ghost use Rattle.column.specs.Butterflies.{inverse_butterflies, interpolate_block, scaled};
-ghost use Rattle.column.specs.Blocks.{blocks};
+ghost use Rattle.column.specs.Blocks.{inverse_length};
+ghost use Rattle.column.specs.Inverse.{interpolate_length};
 ghost use Rattle.transform.specs.Transform.{Column, Coefficients};
-ghost use Rattle.transform.specs.Tree.{Words, PartlyReduced, reduced_words, node_twiddle};
-ghost use Rattle.transform.specs.Tree.{pair_twiddle, interpolate_eight, Block, Unscaled};
+ghost use Rattle.transform.specs.Tree.{Each, PartlyReduced, reduced_words, node_twiddle, four_twiddle, Block, Unscaled};
 
+use crate::blocks::{Direction, eights, in_order, layer};
+use crate::reduction::{Partly, Reduction, Whole};
+use crate::tree::Tree;
 use crate::twiddles;
 use circle::point_table::constant::points;
-use circle::point_table::inner::power_point;
 use fields::log_size::inner::two_to;
 use fields::m31::P;
-use fields::m31::inner::{
-    add, add_partly, mul_by, mul_by_partly, mul_partly, partial_reduce, sub, sub_partly,
-};
+use fields::m31::inner::{add, add_partly, mul_partly, partial_reduce, sub_partly};
 
 const TWO_POW_31: u32 = 2147483648;
 
-// An inverse butterfly with the inverse t of the twiddle on each pair of words, half a block apart; not halved.
-fn inverse_butterflies(block: &mut [u32], half: usize, t: u32)
-    requires { (length block.old ≡ half + half) × (t < P) × Words block.old }
-    ensures { block.new ≡ inverse_butterflies words31 half t block.old }
-{
-    let mut q: usize = 0;
-    while q < half {
-        let other = half + q;
-        let u = block[q];
-        let v = block[other];
-        block[q] = add(u, v);
-        block[other] = mul_by(sub(u, v), t);
-        q += 1;
-    }
-}
-
-// An inverse butterfly with the inverse t of the twiddle on each pair of words, half a block apart; not halved. P may stand
-// for 0, before and after it.
-fn inverse_butterflies_partly(block: &mut [u32], half: usize, t: u32)
-    requires { (length block.old ≡ half + half) × (t < P) × PartlyReduced block.old }
+// An inverse butterfly with the inverse t of the twiddle on each pair of words, half a block apart; not halved. By
+// index, as `butterflies` of blocks.rt.
+fn inverse_butterflies<R: Reduction>(block: &mut [u32], half: usize, t: u32)
+    requires { (length block.old ≡ half + half) × (t < P) × Each R.fits block.old }
     ensures { (reduced_words block.new ≡ inverse_butterflies words31 half t (reduced_words block.old))
-        × PartlyReduced block.new }
+        × Each R.fits block.new }
 {
-    let mut q: usize = 0;
-    while q < half {
-        let other = half + q;
+    for q in 0..half {
         let u = block[q];
-        let v = block[other];
-        block[q] = add_partly(u, v);
-        block[other] = mul_by_partly(sub_partly(u, v), t);
-        q += 1;
+        let v = block[half + q];
+        block[q] = R::add(u, v);
+        block[half + q] = R::mul_by(R::sub(u, v), t);
     }
 }
 
-// One layer: each of so many blocks of two halves, with the inverse twiddles from a node on.
-fn layer(column: &mut [u32], tree: &[u32], node: usize, count: usize, half: usize)
-    requires { (length column.old ≡ count * (half + half)) × (node + count ≤ length tree.now) × PartlyReduced column.old
-        × Words tree.now }
-    ensures { (reduced_words column.new
-        ≡ blocks count (half + half) (λ j. inverse_butterflies words31 half (get_or tree.now j 0)) node
-        (reduced_words column.old))
-        × PartlyReduced column.new }
-{
-    let mut b: usize = 0;
-    let mut start: usize = 0;
-    while b < count {
-        let end = start + (half + half);
-        inverse_butterflies_partly(&mut column[start..end], half, tree[node + b]);
-        start = end;
-        b += 1;
+pub struct Interpolation;
+
+impl Direction for Interpolation {
+    ghost of_halves = { inverse_butterflies words31 };
+
+    ghost of_four = { λ negated w v. interpolate_block words31 2 (four_twiddle negated w v) 0 };
+
+    // down to P, which stands for 0: these are the first layers
+    ghost fits = { λ w. w ≤ P };
+
+    ghost halves_length = { inverse_length words31 };
+
+    ghost four_length = { λ negated w v. interpolate_length words31 2 (four_twiddle negated w v) 0 };
+
+    ghost zero_fits = { lit≤ tt };
+
+    ghost fits_partly = { λ w h. h };
+
+    fn butterflies(block: &mut [u32], half: usize, w: u32) {
+        inverse_butterflies::<Partly>(block, half, w);
     }
-}
 
-// Two layers on four words: v and -v for the pairs, w for the halves.
-fn four(block: &mut [u32], w: u32, v: u32)
-    requires { (length block.old ≡ 4) × (w < P) × (v < P) × PartlyReduced block.old }
-    ensures { (reduced_words block.new
-        ≡ interpolate_block words31 2 (pair_twiddle w v (neg_p v)) 0 (reduced_words block.old))
-        × PartlyReduced block.new }
-{
-    let a = block[0];
-    let b = block[1];
-    let c = block[2];
-    let d = block[3];
-    let p = add_partly(a, b);
-    let q = mul_partly(sub_partly(a, b), v);
-    let m = add_partly(c, d);
-    let n = mul_partly(sub_partly(d, c), v);
-    block[0] = add_partly(p, m);
-    block[1] = add_partly(q, n);
-    block[2] = mul_partly(sub_partly(p, m), w);
-    block[3] = mul_partly(sub_partly(q, n), w);
-}
-
-// Two layers on four words: -v and v for the pairs, w for the halves.
-fn four_negated(block: &mut [u32], w: u32, v: u32)
-    requires { (length block.old ≡ 4) × (w < P) × (v < P) × PartlyReduced block.old }
-    ensures { (reduced_words block.new
-        ≡ interpolate_block words31 2 (pair_twiddle w (neg_p v) v) 0 (reduced_words block.old))
-        × PartlyReduced block.new }
-{
-    let a = block[0];
-    let b = block[1];
-    let c = block[2];
-    let d = block[3];
-    let p = add_partly(a, b);
-    let q = mul_partly(sub_partly(b, a), v);
-    let m = add_partly(c, d);
-    let n = mul_partly(sub_partly(c, d), v);
-    block[0] = add_partly(p, m);
-    block[1] = add_partly(q, n);
-    block[2] = mul_partly(sub_partly(p, m), w);
-    block[3] = mul_partly(sub_partly(q, n), w);
-}
-
-// The first two layers on the eight words below two siblings, which hold the inverses of x and y of one point.
-fn eight(block: &mut [u32], x: u32, y: u32)
-    requires { (length block.old ≡ 8) × (x < P) × (y < P) × PartlyReduced block.old }
-    ensures { (reduced_words block.new ≡ interpolate_eight x y (reduced_words block.old))
-        × PartlyReduced block.new }
-{
-    four(&mut block[0..4], x, y);
-    four_negated(&mut block[4..8], y, x);
-}
-
-// The first two layers of so many blocks of eight words, below the nodes from `node` on.
-fn eights(column: &mut [u32], tree: &[u32], node: usize, count: usize)
-    requires { (length column.old ≡ count * 8) × (2 * (node + count) ≤ length tree.now) × PartlyReduced column.old
-        × Words tree.now }
-    ensures { (reduced_words column.new
-        ≡ blocks count 8 (λ j. interpolate_eight (get_or tree.now (2 * j) 0) (get_or tree.now (2 * j + 1) 0)) node
-        (reduced_words column.old))
-        × PartlyReduced column.new }
-{
-    let mut b: usize = 0;
-    while b < count {
-        let start = 8 * b;
-        let end = start + 8;
-        let child = 2 * (node + b);
-        eight(&mut column[start..end], tree[child], tree[child + 1]);
-        b += 1;
+    // With -v in place of v the words of a pair change places.
+    fn four(block: &mut [u32], negated: bool, w: u32, v: u32) {
+        let (a, b) = in_order(negated, block[0], block[1]);
+        let (c, d) = in_order(negated, block[3], block[2]);
+        let p = add_partly(a, b);
+        let q = mul_partly(sub_partly(a, b), v);
+        let m = add_partly(c, d);
+        let n = mul_partly(sub_partly(c, d), v);
+        block[0] = add_partly(p, m);
+        block[1] = add_partly(q, n);
+        block[2] = mul_partly(sub_partly(p, m), w);
+        block[3] = mul_partly(sub_partly(q, n), w);
     }
 }
 
 // A block of 2^k words below node i, layer by layer; 2^k times the coefficients.
-fn layers(column: &mut [u32], tree: &[u32], i: usize, k: u32)
-    requires { Block (reduced_words column.old) tree.now i k × PartlyReduced column.old }
+fn layers(column: &mut [u32], tree: Tree<'_>, i: usize, k: u32)
+    requires { Block (reduced_words column.old) tree.nodes.now i k × PartlyReduced column.old }
     ensures { (reduced_words column.new
-        ≡ interpolate_block words31 k (node_twiddle tree.now) i (reduced_words column.old))
+        ≡ interpolate_block words31 k (node_twiddle tree.entry.nodes.now) i (reduced_words column.old))
         × PartlyReduced column.new }
 {
     let mut count = column.len() / 4;
     let mut node = i * count;
-    eights(column, tree, node / 2, count / 2);
-    let mut t: u32 = 2;
-    while t < k {
+    eights::<Interpolation>(column, tree, node / 2, count / 2);
+    for t in 2..k {
         let half = two_to(t) as usize;
         count = count / 2;
         node = node / 2;
-        layer(column, tree, node, count, half);
-        t += 1;
+        layer::<Interpolation>(column, tree, node, count, half);
     }
 }
 
@@ -176,19 +104,17 @@ fn scale(column: &mut [u32], s: u32)
     requires { (0 < s) × (s < 31) × PartlyReduced column.old }
     ensures { column.new ≡ scaled words31 (2 ^ s) column.old }
 {
-    let mut i: usize = 0;
-    while i < column.len() {
-        column[i] = rotated(column[i], s);
-        i += 1;
+    for word in column.iter_mut() {
+        *word = rotated(*word, s);
     }
 }
 
 // A block of 2^k words below node i; 2^(k + s) times the coefficients. Blocks that fit the cache go layer by layer and are
 // scaled there, longer ones go half by half.
-fn block(column: &mut [u32], tree: &[u32], i: usize, k: u32, s: u32)
-    requires { Block column.old tree.now i k × (0 < s) × (s < 31) }
+fn block(column: &mut [u32], tree: Tree<'_>, i: usize, k: u32, s: u32)
+    requires { Block column.old tree.nodes.now i k × (0 < s) × (s < 31) }
     ensures { column.new
-        ≡ scaled words31 (2 ^ s) (interpolate_block words31 k (node_twiddle tree.now) i column.old) }
+        ≡ scaled words31 (2 ^ s) (interpolate_block words31 k (node_twiddle tree.entry.nodes.now) i column.old) }
 {
     if k <= 14 {
         layers(column, tree, i, k);
@@ -198,7 +124,7 @@ fn block(column: &mut [u32], tree: &[u32], i: usize, k: u32, s: u32)
     let half = column.len() / 2;
     block(&mut column[..half], tree, 2 * i, k - 1, s);
     block(&mut column[half..], tree, 2 * i + 1, k - 1, s);
-    inverse_butterflies(column, half, tree[i]);
+    inverse_butterflies::<Whole>(column, half, tree.twiddle(i));
 }
 
 // y is -1 at log size 1.
@@ -206,7 +132,7 @@ fn interpolate_two(column: &mut [u32])
     requires { Column 1 column.old }
     ensures { Unscaled 1 column.old column.new }
 {
-    inverse_butterflies(column, 1, P - 1);
+    inverse_butterflies::<Whole>(column, 1, P - 1);
 }
 
 // y is -x at log size 2, and 1 / x is 2x.
@@ -214,11 +140,9 @@ fn interpolate_four(column: &mut [u32])
     requires { Column 2 column.old }
     ensures { Unscaled 2 column.old column.new }
 {
-    let table = points();
-    let p = power_point(&table, 28);
-    let x = p.x.0;
+    let x = points().power_point(28).x.0;
     let inverse = add(x, x);
-    four_negated(column, inverse, inverse);
+    Interpolation::four(column, true, inverse, inverse);
 }
 
 pub fn interpolate(log_size: u32, column: &mut [u32], scratch: &mut [u32])
@@ -240,5 +164,8 @@ pub fn interpolate(log_size: u32, column: &mut [u32], scratch: &mut [u32])
     let words = column.len() / 2;
     twiddles::fill(&mut scratch[..words], log_size);
     twiddles::invert(&mut scratch[..words]);
-    block(column, &scratch[..words], 1, log_size, 31 - log_size);
+    let tree = Tree {
+        nodes: &scratch[..words],
+    };
+    block(column, tree, 1, log_size, 31 - log_size);
 }

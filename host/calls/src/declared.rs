@@ -32,7 +32,7 @@ fn types_of(text: &str, krate: &str, module: &[String], file: &str) -> Vec<(Key,
     let mut found = vec![];
     for (at, line) in lines.iter().enumerate() {
         let head = line.strip_prefix("pub struct ").or(line.strip_prefix("pub enum "));
-        let Some(name) = head.and_then(|head| head.split(['(', ' ', '{']).next()) else { continue };
+        let Some(name) = head.and_then(|head| head.split(['(', '<', ' ', '{']).next()) else { continue };
         let more = if line.ends_with(';') { Some(0) } else { lines[at..].iter().position(|line| *line == "}") };
         let text = lines[at..=at + more.expect("a type ends")].iter().map(|line| line.to_string()).collect();
         let above = lines[..at].iter().rev().filter(|line| !line.starts_with("#["));

@@ -64,7 +64,9 @@ impl Page<'_> {
         text += &format!("\nPromised in `{}`:\n\n{}", entry.file, indented(entry.contract.iter().map(String::as_str)));
         let (shown, others): (Vec<&Named>, Vec<&Named>) = entry.names.iter().partition(|named| is_shown(&named.key.1));
         let mut uses: Vec<Named> = others.into_iter().cloned().collect();
-        for Named { key, .. } in shown {
+        let with_answers = shown.into_iter().flat_map(|named| [vec![&named.key], self.answers_of(&named.key)].concat());
+        let mut written: BTreeSet<&Key> = BTreeSet::new();
+        for key in with_answers.filter(|key| written.insert(*key)) {
             let Some(definition) = self.specs.definitions.get(key) else { continue };
             text +=
                 &format!("\n{}\n", wrapped(&format!("`{}` in `{}`{}", key.1, definition.file, comment(definition))));
@@ -72,6 +74,13 @@ impl Page<'_> {
             uses.extend(definition.names.iter().cloned());
         }
         Ok(text + &self.uses(&uses, used))
+    }
+
+    /// The answers that a definition is made of, as M31's sum is that of any field: they are shown with it.
+    fn answers_of(&self, key: &Key) -> Vec<&Key> {
+        let Some(definition) = self.specs.definitions.get(key) else { return vec![] };
+        let used = definition.names.iter().map(|named| &named.key);
+        used.filter(|used| refusals::is_answer(used, self.specs)).collect()
     }
 
     /// The refusals in words: the header's name of each.

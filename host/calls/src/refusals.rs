@@ -1,5 +1,6 @@
 //! The refusals that a definition makes, in the order of its checks.
 
+use crate::imports::Module;
 use crate::specs::{Key, Named, Specs};
 
 /// Where the cases of a refusal are declared.
@@ -31,7 +32,13 @@ fn collect(key: &Key, specs: &Specs, numbers: &mut Vec<u32>) {
 
 /// Whether a definition of this type gives checks or an answer.
 fn makes_refusals(result: &str) -> bool {
-    result == "Checks" || result.ends_with("Answer") || result.ends_with("Step")
+    result == "Checks" || result.starts_with("Result ")
+}
+
+/// Whether a definition is an answer: not `checked` and `outcome`, which make one of any checks.
+pub fn is_answer(key: &Key, specs: &Specs) -> bool {
+    key.0 != Module::new("fields", "Check")
+        && specs.definitions.get(key).is_some_and(|definition| definition.result.starts_with("Result "))
 }
 
 /// The number that the specs give a case.

@@ -56,8 +56,10 @@ impl Specs {
         for paragraph in &paragraphs {
             let Some(name) = paragraph.name() else { continue };
             let bound = paragraph.bound();
-            let lines = paragraph.context.iter().chain(&paragraph.code);
-            let words = lines.flat_map(|line| words(line)).map(|word| imports.without_fields(word));
+            // What `open F use {x, ..}` lists are fields of F.
+            let context = paragraph.context.iter().map(|line| line.split(" use {").next().unwrap_or(line));
+            let lines = context.chain(paragraph.code.iter().map(String::as_str));
+            let words = lines.flat_map(words).map(|word| imports.without_fields(word));
             let words = words.filter(|word| !bound.contains(word));
             let key = |word: &str| match imports.resolve(word) {
                 Some((module, name)) => Some((module, name.to_string())),

@@ -1,42 +1,34 @@
-use Rattle.std.proofs.Common.{length, ◌∙◌, arith}
-use Rattle.fields.specs.CheckLaws.{passed_hold}
+use Rattle.std.proofs.Common.{length, ap, ◌∙◌}
+use Rattle.fields.specs.CheckLaws.{hold_at}
 use Rattle.batch.specs.Counts.{chunked_counts}
-use Rattle.batch.specs.Batch.{column_of, count, chunked_checks, chunked_answer}
-use Rattle.batch.proofs.Batches.{refused_batch, accepted_batch, width_positive}
-use Rattle.batch.proofs.Parts.{part_of_chunk, chunk_parts, chunk_counts}
+use Rattle.batch.specs.Batch.{count, chunked_checks, chunked_answer}
+use Rattle.batch.proofs.Checks.{same_count, inverting, refused_batch, accepted_batch}
 use Rattle.batch.proofs.batch_inverse_chunked.Goals as goal
 
-pub returns-in-Refused : goal.returns-in-Refused
+pub returns-in_err-check : goal.returns-in_err-check
 unfolding chunked_answer
-returns-in-Refused c = let args = c.args in
-    let column = args.column.now in
-    let dst = args.dst.now in
-    let F = column_of args.field in
-    let batch = refused_batch args.field (chunked_checks F args.chunk column (length dst))
-    (chunked_counts args.chunk (count F column)) column dst
-    c.check-checks.ensures c.in-Refused.is in
-    (batch.answer, batch.destination)
+returns-in_err-check g c =
+    let C = g.F.Column.column in
+    let column = c.args.column.now in
+    let dst = c.args.dst.now in
+    refused_batch g.met.F.Column.laws (chunked_checks C c.args.chunk column (length dst)) (chunked_counts c.args.chunk (count C column))
+    column dst c.from_residual.ensures.1 c.check.ensures c.in_err-check.was
 
-pub part_words-words-requires : goal.part_words-words-requires
-part_words-words-requires c = omega (arith, c.width.ensures, width_positive c.args.field)
-
-pub invert_parts-requires : goal.invert_parts-requires
-invert_parts-requires c = let args = c.args in
-    let chunk = args.chunk in
-    let column = args.column.now in
-    let all = chunked_checks (column_of args.field) chunk column (length args.dst.now) in
-    chunk_parts args.field chunk (passed_hold all _ c.check-checks.ensures c.in_default.is)
-    (part_of_chunk args.field column chunk c.width.ensures c.part_words-words.ensures)
+pub invert_chunks-requires-clause-inverting : goal.invert_chunks-requires-clause-inverting
+invert_chunks-requires-clause-inverting g c =
+    let column = c.args.column.now in
+    let dst = c.args.dst.now in
+    inverting g.met.F.Column.laws c.args.chunk column dst
+    (hold_at (chunked_checks g.F.Column.column c.args.chunk column (length dst)) _ _ c.check.ensures c.in_ok-check.was)
 
 pub returns : goal.returns
 unfolding chunked_answer
-returns c = let args = c.args in
-    let chunk = args.chunk in
-    let column = args.column.now in
-    let dst = args.dst.now in
-    let F = column_of args.field in
-    let words = part_of_chunk args.field column chunk c.width.ensures c.part_words-words.ensures in
-    let made = c.invert_parts.ensures.1 ∙ chunk_counts args.field column chunk words in
-    let batch = accepted_batch args.field (chunked_checks F chunk column (length dst)) (chunked_counts chunk (count F column)) column dst
-    c.check-checks.ensures c.in_default.is made c.invert_parts.ensures.0 in
-    (batch.answer, batch.destination)
+returns g c =
+    let laws = g.met.F.Column.laws in
+    let C = g.F.Column.column in
+    let chunk = c.args.chunk in
+    let column = c.args.column.now in
+    let dst = c.args.dst.now in
+    accepted_batch laws (chunked_checks C chunk column (length dst)) (chunked_counts chunk (count C column)) column dst
+    c.check.ensures c.in_ok-check.was (c.invert_chunks.ensures.1 ∙ ap (chunked_counts chunk) (same_count laws column))
+    c.invert_chunks.ensures.0

@@ -1,19 +1,18 @@
-// Point indices that are known to be in range: what the layers above compute with. These are no public calls.
+// Operations on point indices that have been checked: what the layers above compute with. These are no public calls. Sums, products
+// and points need no check: 2^31, the order of G, divides 2^64.
 ghost use Rattle.std.specs.Prelude.{◌≡◌, ◌+◌, ◌-◌, ◌*◌, ◌%◌, ◌^◌, ◌≤◌};
 ghost use Rattle.circle.specs.Point.{point_of, Reduced};
 ghost use Rattle.circle.specs.Index.{IsIndex, is_index, index_point, subgroup_gen, neg_index};
 
 use crate::index::CirclePointIndex;
-use crate::point::{CirclePoint, M31_CIRCLE_LOG_ORDER, inner as point};
+use crate::point::{CirclePoint, M31_CIRCLE_LOG_ORDER};
 use crate::point_table::constant::points;
-use crate::point_table::inner::entry;
 use crate::point_table::{DIGITS, WINDOWS};
 use fields::log_size::inner::two_to;
+use fields::m31::M31;
 
 // the order of G, 2^31; an index is below it
 const ORDER: u64 = 2147483648;
-
-const TWO_POW_32: u64 = 4294967296;
 
 pub fn is_index(k: CirclePointIndex) -> bool
     ensures { result ≡ is_index k }
@@ -42,10 +41,9 @@ pub fn subgroup_gen(log_size: u32) -> CirclePointIndex
 }
 
 pub fn add(j: CirclePointIndex, k: CirclePointIndex) -> CirclePointIndex
-    requires { (IsIndex j) × (IsIndex k) }
     ensures { result.0 ≡ (j.0 + k.0) % 2 ^ 31 }
 {
-    modulo_order(j.0 + k.0)
+    modulo_order(j.0.wrapping_add(k.0))
 }
 
 pub fn sub(j: CirclePointIndex, k: CirclePointIndex) -> CirclePointIndex
@@ -62,38 +60,22 @@ pub fn neg(k: CirclePointIndex) -> CirclePointIndex
     modulo_order(ORDER - k.0)
 }
 
-// The product modulo 2^64, by halves of 32 bits.
-fn wrapping_mul(a: u64, b: u64) -> u64
-    ensures { result ≡ (a * b) % 2 ^ 64 }
-{
-    let ah = a / TWO_POW_32;
-    let al = a % TWO_POW_32;
-    let bh = b / TWO_POW_32;
-    let bl = b % TWO_POW_32;
-    let middle = ((ah * bl) % TWO_POW_32 + (al * bh) % TWO_POW_32) % TWO_POW_32;
-    std::num::wrapping_add_u64(al * bl, middle * TWO_POW_32)
-}
-
-// Any count: the product modulo 2^64 is exact modulo 2^31, which divides 2^64.
 pub fn mul(k: CirclePointIndex, count: u64) -> CirclePointIndex
     ensures { result.0 ≡ (k.0 * count) % 2 ^ 31 }
 {
-    modulo_order(wrapping_mul(k.0, count))
+    modulo_order(k.0.wrapping_mul(count))
 }
 
 // The sum of the points of its digits.
-pub fn to_point(k: CirclePointIndex) -> CirclePoint
-    requires { IsIndex k }
+pub fn to_point(k: CirclePointIndex) -> CirclePoint<M31>
     ensures { (point_of result ≡ index_point k.0) × Reduced result }
 {
     let table = points();
     let mut sum = CirclePoint::zero();
-    let mut rest = k.0 as usize;
-    let mut window: usize = 0;
-    while window < WINDOWS {
-        sum = point::add(sum, entry(&table, window, rest % DIGITS));
-        rest = rest / DIGITS;
-        window += 1;
+    let mut rest = reduce(k).0 as usize;
+    for window in 0..WINDOWS {
+        sum = sum.plus(table.entry(window, rest % DIGITS));
+        rest /= DIGITS;
     }
     sum
 }

@@ -1,15 +1,11 @@
 // The table of points as a constant: the numbers that the program `point_table` writes, in its order.
-ghost use Rattle.std.specs.Prelude.{◌≡◌};
-ghost use Rattle.circle.specs.Table.{table_words};
-
 use crate::point_table::WORDS;
+use crate::point_table::inner::PointTable;
 
 // Behind a reference the constant lies in read-only memory: a function that names a constant array by itself clears and
-// fills it on its stack. Readers take the table once and look up all that they need in it.
-pub fn points() -> [u32; WORDS]
-    ensures { result ≡ table_words }
-{
-    *POINTS
+// fills it on its stack.
+pub fn points() -> PointTable<'static> {
+    PointTable { words: POINTS }
 }
 
 const POINTS: &[u32; WORDS] = &[

@@ -1,11 +1,13 @@
 // M31 on words already known to be below P: what the layers above compute with. These are no public calls.
+//
+// They take words with a bound, and no type whose invariant is the bound: columns and trees lie in slices of u32 that C lends, so
+// each word read from one would have to be made a value of that type, and each result a word again. What ends in `_partly` leaves
+// the last step of a reduction out; one function for both would have a bound in its contract that depends on the step.
 ghost use Rattle.std.specs.Prelude.{◌≡◌, ◌+◌, ◌*◌, ◌/◌, ◌%◌, ◌^◌, ◌<◌, ◌≤◌};
 ghost use Rattle.algebra.specs.M31.{P};
 ghost use Rattle.fields.specs.Words.{add_p, sub_p, neg_p, mul_p, pow_p};
-ghost use Rattle.fields.specs.Wide.{number};
 
 use crate::m31::{MODULUS_BITS, P};
-use crate::wide::U128;
 
 // 2^31 is 1 modulo P, so the bits from 31 on are added to those below.
 const TWO_POW_31: u32 = 1 << MODULUS_BITS;
@@ -61,7 +63,7 @@ pub fn sub_partly(a: u32, b: u32) -> u32
     requires { (a ≤ P) × (b ≤ P) }
     ensures { (result % P ≡ sub_p a b) × (result ≤ P) × (a < P → result < P) }
 {
-    let difference = std::num::wrapping_sub_u32(a, b);
+    let difference = a.wrapping_sub(b);
     (difference - difference / TWO_POW_31) % TWO_POW_31
 }
 
@@ -102,7 +104,7 @@ fn halves_by(a: u32, w: u32) -> u32
     requires { (a ≤ P) × (w < P) }
     ensures { (result ≡ (a * w) % 2147483648 + (a * w) / 2147483648) × (result < 2 * P) }
 {
-    let twice = std::num::wrapping_add_u32(w, w);
+    let twice = w.wrapping_add(w);
     let wide = (a as u64) * (twice as u64);
     ((wide % TWO_POW_32) as u32) / 2 + ((wide / TWO_POW_32) as u32)
 }
@@ -160,46 +162,17 @@ fn below_two_p(sum: u64) -> u32
     ensures { (result % P ≡ sum % P) × (result < 2 * P) }
 {
     if sum < TWO_P {
-        return sum as u32;
+        sum as u32
+    } else {
+        (sum - TWO_P) as u32
     }
-    (sum - TWO_P) as u32
 }
 
 fn below_p(sum: u32) -> u32
     requires { sum < 2 * P }
     ensures { result ≡ sum % P }
 {
-    if sum < P {
-        return sum;
-    }
-    sum - P
-}
-
-// a times b where n is odd, else a
-fn mul_if_odd(a: u32, b: u32, n: U128) -> u32
-    requires { (a < P) × (b < P) }
-    ensures { result ≡ mul_p a (pow_p b (number n % 2)) }
-{
-    if n.is_odd() {
-        return mul(a, b);
-    }
-    a
-}
-
-// a to the power n, by square-and-multiply.
-pub fn pow(a: u32, n: U128) -> u32
-    requires { a < P }
-    ensures { result ≡ pow_p a (number n) }
-{
-    let mut res: u32 = 1;
-    let mut base = a;
-    let mut left = n;
-    while !left.is_zero() {
-        res = mul_if_odd(res, base, left);
-        base = mul(base, base);
-        left = left.half();
-    }
-    res
+    if sum < P { sum } else { sum - P }
 }
 
 // n squarings
@@ -208,10 +181,8 @@ pub fn sqn(v: u32, n: u64) -> u32
     ensures { result ≡ pow_p v (2 ^ n) }
 {
     let mut square = v;
-    let mut left = n;
-    while 0 < left {
+    for _ in 0..n {
         square = mul(square, square);
-        left -= 1;
     }
     square
 }

@@ -1,43 +1,41 @@
 use mathlib.Core.Path.{refl, sym, ◌∙◌, subst}
 use lib.ListN.{length}
-use Rattle.fields.specs.declared.answer.WriteAnswer.{WriteAnswer}
+use Rattle.std.specs.Prelude.{Result}
+use Rattle.fields.specs.declared.refusal.Refusal.{Refusal}
 use Rattle.transform.specs.Transform.{InterpolateExit, ScratchExit}
 use Rattle.transform.specs.Accepted.{accepted}
+use Rattle.transform.proofs.Calls.{returned}
 use Rattle.transform.proofs.interpolate.Goals as goal
 
-pub returns-in_default : goal.returns-in_default
+pub returns-in_err-check : goal.returns-in_err-check
 unfolding InterpolateExit ScratchExit
-returns-in_default c = let check = c.check-answer in
-    let s = c.args in
-    let n = s.log_size in
-    let column = s.column.now in
-    let scratch = s.scratch.now in
-    let answer = sym c.in_default.is ∙ check.ensures in (
-      check.ensures,
+returns-in_err-check c = let n = c.args.log_size in
+    let column = c.args.column.now in
+    let scratch = c.args.scratch.now in
+    let answer = sym c.in_err-check.was ∙ c.check.ensures in (
+      returned _ _ _ c.from_residual.ensures.1 c.in_err-check.was ∙ c.check.ensures,
       record {
-        column_left = subst (λ (a : WriteAnswer). InterpolateExit a n column column) answer refl;
-        scratch_left = subst (λ (a : WriteAnswer). ScratchExit a n scratch scratch) answer refl;
+        column_left = subst (λ (a : Result (Unit {0}) Refusal). InterpolateExit a n column column) answer refl;
+        scratch_left = subst (λ (a : Result (Unit {0}) Refusal). ScratchExit a n scratch scratch) answer refl;
       },
     )
 
 pub interpolate-requires : goal.interpolate-requires
-interpolate-requires c = let s = c.args in
-    let ok = accepted s.log_size s.column.now (length s.scratch.now) (sym c.check-answer.ensures ∙ c.in-Written.is) in
+interpolate-requires c =
+    let ok = accepted c.args.log_size c.args.column.now (length c.args.scratch.now) (sym c.check.ensures ∙ c.in_ok-check.was) in
     (ok.low, ok.high, ok.words, ok.room)
 
 pub returns : goal.returns
 unfolding InterpolateExit ScratchExit
-returns c = let done = c.interpolate in
-    let s = c.args in
-    let n = s.log_size in
-    let column = s.column.now in
-    let scratch = s.scratch.now in
-    let answer = sym c.in-Written.is
-    ∙ c.check-answer.ensures in (
+returns c = let n = c.args.log_size in
+    let column = c.args.column.now in
+    let scratch = c.args.scratch.now in
+    let answer = sym c.in_ok-check.was ∙ c.check.ensures in (
       answer,
       record {
-        column_left = subst (λ (a : WriteAnswer). InterpolateExit a n column done.new.column) answer done.ensures.0;
-        scratch_left = subst (λ (a : WriteAnswer). ScratchExit a n scratch done.new.scratch) answer
-            (done.ensures.1, done.ensures.2);
+        column_left = subst (λ (a : Result (Unit {0}) Refusal). InterpolateExit a n column c.interpolate.new.column) answer
+            c.interpolate.ensures.0;
+        scratch_left = subst (λ (a : Result (Unit {0}) Refusal). ScratchExit a n scratch c.interpolate.new.scratch) answer
+            (c.interpolate.ensures.1, c.interpolate.ensures.2);
       },
     )

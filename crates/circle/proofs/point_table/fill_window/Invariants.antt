@@ -1,9 +1,5 @@
-use Rattle.std.proofs.Common.{◌-◌}
 use Rattle.circle.proofs.Windows.{WindowThrough}
 use Rattle.circle.proofs.point_table.fill_window.Given as goal
 
 abbrev pub invariant-loop-digit : goal.invariant-loop-digit
 invariant-loop-digit l = WindowThrough l.digits l.base l.words l.digit l.p
-
-abbrev pub decreases-loop-digit : goal.decreases-loop-digit
-decreases-loop-digit l = l.digits - l.digit

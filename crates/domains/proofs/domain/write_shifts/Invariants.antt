@@ -1,13 +1,9 @@
-use Prim.Native.Nat.{◌-◌, ◌*◌, ◌%◌, ◌^◌, ◌≤◌}
-use mathlib.Core.List.{◌++◌}
-use mathlib.Core.Path.{◌≡◌}
-use lib.ListN.{length, drop}
+use Rattle.std.specs.Prelude.{◌≡◌, ◌*◌, ◌%◌, ◌^◌, ◌++◌, drop}
 use Rattle.algebra.specs.Listing.{listing}
 use Rattle.domains.proofs.domain.write_shifts.Given as goal
 
-abbrev pub invariant-loop-i : goal.invariant-loop-i
-invariant-loop-i l = (l.i ≤ l.parts) × (length l.shifts ≡ length l.initial.shifts) ×
-    (l.shifts ≡ listing l.i (λ k. (l.step.0 * k) % 2 ^ 31) ++ drop l.i l.initial.shifts)
-
-abbrev pub decreases-loop-i : goal.decreases-loop-i
-decreases-loop-i l = l.parts - l.i
+abbrev pub invariant-loop-shift : goal.invariant-loop-shift
+invariant-loop-shift l = record {
+  next : l.next.0 ≡ (l.fn.step.0 * l.shift-index) % 2 ^ 31;
+  written : l.shift-items ≡ listing l.shift-index (λ i. (l.fn.step.0 * i) % 2 ^ 31) ++ drop l.shift-index l.initial.shift-items;
+}

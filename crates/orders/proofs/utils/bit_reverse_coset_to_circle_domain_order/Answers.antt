@@ -1,14 +1,16 @@
-use borrow.Author.Rules.{rules}
 use Rattle.orders.specs.Orders.{coset_bit_reversed}
 use Rattle.orders.proofs.Accepted.{is_power, accepted, refused}
 use Rattle.orders.proofs.utils.bit_reverse_coset_to_circle_domain_order.Goals as goal
 
-pub bit_reverse_coset_to_circle_domain_order-requires : goal.bit_reverse_coset_to_circle_domain_order-requires
-bit_reverse_coset_to_circle_domain_order-requires c = (search rules, is_power c.args.v.now _ c.log_size-log_size.ensures (search rules))
+pub returns-in_err-log_size : goal.returns-in_err-log_size
+returns-in_err-log_size c =
+    refused c.args.v.now _ _ c.log_size.ensures c.ok_or.ensures.value coset_bit_reversed _ _ c.from_residual.ensures.1 c.in_err-log_size.was
 
-pub returns-then-log_size-lt64 : goal.returns-then-log_size-lt64
-returns-then-log_size-lt64 c = accepted c.args.v.now _ c.log_size-log_size.ensures coset_bit_reversed _ c.if-log_size-lt64.true
-    c.bit_reverse_coset_to_circle_domain_order.ensures
+pub bit_reverse_coset_to_circle_domain_order-requires : goal.bit_reverse_coset_to_circle_domain_order-requires
+bit_reverse_coset_to_circle_domain_order-requires c =
+    is_power c.args.v.now _ _ c.log_size.ensures c.ok_or.ensures.value _ c.in_ok-log_size.was
 
 pub returns : goal.returns
-returns c = refused c.args.v.now _ c.log_size-log_size.ensures coset_bit_reversed c.if-log_size-lt64.false
+returns c =
+    accepted c.args.v.now _ _ c.log_size.ensures c.ok_or.ensures.value coset_bit_reversed _ _ c.in_ok-log_size.was
+    c.bit_reverse_coset_to_circle_domain_order.ensures

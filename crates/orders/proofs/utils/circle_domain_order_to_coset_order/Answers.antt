@@ -1,17 +1,14 @@
-use lib.ListN.{length}
+use Rattle.std.proofs.Common.{length}
 use Rattle.orders.specs.Orders.{to_domain}
-use Rattle.orders.proofs.Accepted.{fits_copy, copied_whole, copied_nothing}
-use Rattle.std.proofs.Common.{ap, not}
+use Rattle.orders.proofs.Accepted.{copied_whole, copied_nothing}
 use Rattle.orders.proofs.utils.circle_domain_order_to_coset_order.Goals as goal
 
-pub returns-then-not-lengths_fit : goal.returns-then-not-lengths_fit
-returns-then-not-lengths_fit c = copied_nothing c.args.values.now c.args.dst.now _ c.lengths_fit.ensures
-    (to_domain (length c.args.values.now)) (ap not c.if-not-lengths_fit.true)
-
-pub circle_domain_order_to_coset_order-requires : goal.circle_domain_order_to_coset_order-requires
-circle_domain_order_to_coset_order-requires c = fits_copy c.args.values.now c.args.dst.now _ c.lengths_fit.ensures
-    (ap not c.if-not-lengths_fit.false)
+pub returns-in_err-need : goal.returns-in_err-need
+returns-in_err-need c =
+    copied_nothing c.args.values.now c.args.dst.now _ _ c.lengths_fit.ensures c.need.ensures (to_domain (length c.args.values.now)) _ _
+    c.from_residual.ensures.1 c.in_err-need.was
 
 pub returns : goal.returns
-returns c = copied_whole c.args.values.now c.args.dst.now _ c.lengths_fit.ensures (to_domain (length c.args.values.now)) _
-    (ap not c.if-not-lengths_fit.false) c.circle_domain_order_to_coset_order.ensures
+returns c =
+    copied_whole c.args.values.now c.args.dst.now _ _ c.lengths_fit.ensures c.need.ensures (to_domain (length c.args.values.now)) _ _
+    c.in_ok-need.was c.circle_domain_order_to_coset_order.ensures

@@ -1,27 +1,8 @@
-use Prim.Native.Nat.{◌-◌, ◌≤◌}
+use Prim.Native.Nat.{◌≤◌}
 use native.Mathlib.Omega.{arith}
-use lib.Pow as W
 use Rattle.circle.specs.Point.{point_of}
-use Rattle.transform.proofs.Steps.{first_step, half_points, all_points, next_step}
+use Rattle.transform.proofs.Steps.{half_points, all_points, next_step}
 use Rattle.transform.proofs.twiddles.+add_steps.Goals as goal
-
-pub returns-then-s-lt2 : goal.returns-then-s-lt2
-returns-then-s-lt2 t c = first_step c.args.s (point_of c.args.step) c.args.level.now c.requires.least c.if-s-lt2.true
-    c.requires.first_x c.requires.first_y
-
-pub add_steps-requires : goal.add_steps-requires
-add_steps-requires t c = (
-  omega arith,
-  record {
-    least = omega arith;
-    most = omega (arith, c.requires.most);
-    room = omega (arith, c.requires.room, W.pow_mono {i = c.args.s - 1} {j = c.args.s} (omega arith));
-    first_x = c.requires.first_x;
-    first_y = c.requires.first_y;
-    reduced = c.power_point.ensures.1;
-    is_table = c.requires.is_table;
-  },
-)
 
 pub add_points-requires : goal.add_points-requires
 add_points-requires t c = let power = c.two_to-count in

@@ -1,11 +1,8 @@
 use Prim.Native.Nat.{ℕ, suc, ◌-◌, ◌*◌}
-use mathlib.Core.Path.{◌≡◌, refl, ◌∙◌, ap}
+use mathlib.Core.Path.{◌≡◌, ◌∙◌, ap}
 use native.Mathlib.Omega.{arith}
 use Rattle.transform.proofs.Filling.{lines_room, lines_below, lines_next}
 use Rattle.transform.proofs.twiddles.double_levels.Goals as goal
-
-pub loop-m-init : goal.loop-m-init
-loop-m-init c = (omega arith, refl, c.requires.3)
 
 pub double_level-requires : goal.double_level-requires
 double_level-requires c = let n = c.args.log_size in
@@ -25,10 +22,3 @@ loop-m-preserved c = let m = c.loop-m.m in
       lines_next _ (m - 1) m _ _ next c.loop-m.invariant.0 c.requires.1 c.two_to.ensures
           c.loop-m.invariant.2 _ c.double_level.ensures,
     )
-
-pub shape_of-tree : goal.shape_of-tree
-shape_of-tree c = c.loop-m.invariant.1
-
-pub returns : goal.returns
-returns c = let at = c.loop-m in
-    λ k b h. at.invariant.2 k b (omega arith)

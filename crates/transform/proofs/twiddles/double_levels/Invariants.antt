@@ -6,6 +6,3 @@ use Rattle.transform.proofs.twiddles.double_levels.Given as goal
 
 abbrev pub invariant-loop-m : goal.invariant-loop-m
 invariant-loop-m l = (l.m + 2 ≤ l.log_size) × (length l.tree ≡ length l.initial.tree) × LinesFrom l.log_size l.m l.tree
-
-abbrev pub decreases-loop-m : goal.decreases-loop-m
-decreases-loop-m l = l.m

@@ -1,8 +1,6 @@
 use Prim.Native.Nat.{ℕ, ◌*◌}
 use mathlib.Core.Path.{◌∙◌, ap}
-use native.Mathlib.Omega.{arith}
-use lib.ListN.{get_or, length-set}
-use Rattle.transform.proofs.Filling.{level_size, tree_size, last_lines, some_nodes, whole_tree}
+use Rattle.transform.proofs.Filling.{level_size, tree_size, last_lines, some_nodes}
 use Rattle.transform.proofs.twiddles.fill.Goals as goal
 
 pub fill_points-requires : goal.fill_points-requires
@@ -22,21 +20,3 @@ pub bounds-tree-1 : goal.bounds-tree-1
 bounds-tree-1 c = let l = c.fill_points in
     some_nodes c.args.log_size c.args.tree.now c.requires l.new.level l.auto.level
     c.double_levels.new.tree c.double_levels.auto.tree
-
-pub bounds-tree-0 : goal.bounds-tree-0
-bounds-tree-0 c =
-    let l = c.fill_points in
-    let more = some_nodes c.args.log_size c.args.tree.now c.requires l.new.level l.auto.level c.double_levels.new.tree
-    c.double_levels.auto.tree in
-    omega arith
-
-pub shape_of-tree : goal.shape_of-tree
-shape_of-tree c = let l = c.fill_points in
-    let filled = c.double_levels.new.tree in
-    length-set filled 0 (get_or filled 1 0) ∙ c.double_levels.auto.tree
-    ∙ tree_size c.args.log_size c.args.tree.now c.requires l.new.level l.auto.level
-
-pub returns : goal.returns
-returns c = let l = c.fill_points in
-    whole_tree c.args.log_size c.args.tree.now c.requires l.new.level l.auto.level
-    c.double_levels.new.tree c.double_levels.auto.tree c.double_levels.ensures

@@ -1,5 +1,5 @@
 use Prim.Native.Nat.{ℕ, ◌<◌}
-use mathlib.Core.Path.{◌∙◌, subst, sym}
+use mathlib.Core.Path.{subst, sym}
 use native.Mathlib.Omega.{arith}
 use lib.ListN.{length-set}
 use Rattle.algebra.specs.M31.{P}
@@ -8,16 +8,12 @@ use Rattle.transform.proofs.Pairs.{written-length}
 use Rattle.transform.proofs.Steps.{level_room, two_words, first_x, first_y, level_filled}
 use Rattle.transform.proofs.twiddles.fill_points.Goals as goal
 
-pub bounds-level-0 : goal.bounds-level-0
-bounds-level-0 c = omega (arith, two_words c.args.log_size c.args.level.now c.requires)
-
 pub bounds-level-1 : goal.bounds-level-1
 bounds-level-1 c = rw length-set (omega (arith, two_words c.args.log_size c.args.level.now c.requires))
 
 pub add_steps-requires : goal.add_steps-requires
 add_steps-requires c = let n = c.args.log_size in
     let level = c.args.level.now in
-    let points = c.points-table in
     let start = c.power_point-start in
     let x = start.result.x.0 in
     let y = start.result.y.0 in
@@ -28,12 +24,7 @@ add_steps-requires c = let n = c.args.log_size in
       first_x = subst (λ (w : ℕ). w < P) (sym (first_x n level c.requires x y)) start.ensures.1.0;
       first_y = subst (λ (w : ℕ). w < P) (sym (first_y n level c.requires x y)) start.ensures.1.1;
       reduced = c.power_point-step.ensures.1;
-      is_table = points.ensures;
     }
-
-pub shape_of-level : goal.shape_of-level
-shape_of-level c = let start = c.power_point-start in
-    c.add_steps.auto.level ∙ written-length c.args.level.now 0 start.result.x.0 start.result.y.0
 
 pub returns : goal.returns
 returns c = let start = c.power_point-start in

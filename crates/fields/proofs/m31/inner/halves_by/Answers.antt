@@ -1,4 +1,4 @@
-use Rattle.std.proofs.Common.{◌≡◌, ℕ, ◌+◌, ◌*◌, ◌/◌, ◌%◌, ◌<◌, ◌≤◌, ap, ◌∙◌, arith}
+use Rattle.std.proofs.Common.{refl, ◌≡◌, ℕ, ◌+◌, ◌*◌, ◌/◌, ◌%◌, ◌<◌, ◌≤◌, ap, ◌∙◌, arith}
 use Rattle.algebra.specs.M31.{P}
 use Rattle.fields.proofs.Reductions.{product_below, doubled_product, doubled_halves, halves_below}
 use Rattle.fields.proofs.m31.inner.halves_by.Goals as goal
@@ -11,17 +11,17 @@ parts a w v ha hw e =
     (is, omega (arith, is, halves_below (a * w) (product_below a w ha hw)))
 
 pub overflow_mul-wide : goal.overflow_mul-wide
-overflow_mul-wide c = let p = doubled_product c.args.a c.args.w c.wrapping_add_u32-twice.result c.requires.0 c.requires.1 c.wrapping_add_u32-twice.ensures.value in
+overflow_mul-wide c = let p = doubled_product c.args.a c.args.w _ c.requires.0 c.requires.1 refl in
     omega (arith, p.0, p.1)
 
 pub overflow_cast-result-2 : goal.overflow_cast-result-2
-overflow_cast-result-2 c = let p = doubled_product c.args.a c.args.w c.wrapping_add_u32-twice.result c.requires.0 c.requires.1 c.wrapping_add_u32-twice.ensures.value in
+overflow_cast-result-2 c = let p = doubled_product c.args.a c.args.w _ c.requires.0 c.requires.1 refl in
     omega (arith, p.0, p.1)
 
 pub overflow_add-result : goal.overflow_add-result
-overflow_add-result c = let p = doubled_product c.args.a c.args.w c.wrapping_add_u32-twice.result c.requires.0 c.requires.1 c.wrapping_add_u32-twice.ensures.value in
+overflow_add-result c = let p = doubled_product c.args.a c.args.w _ c.requires.0 c.requires.1 refl in
     omega (arith, (parts c.args.a c.args.w _ c.requires.0 c.requires.1 p.0).1)
 
 pub returns : goal.returns
-returns c = let p = doubled_product c.args.a c.args.w c.wrapping_add_u32-twice.result c.requires.0 c.requires.1 c.wrapping_add_u32-twice.ensures.value in
+returns c = let p = doubled_product c.args.a c.args.w _ c.requires.0 c.requires.1 refl in
     parts c.args.a c.args.w _ c.requires.0 c.requires.1 p.0

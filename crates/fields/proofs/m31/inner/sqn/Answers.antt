@@ -1,17 +1,24 @@
-use Rattle.std.proofs.Common.{◌≡◌, ℕ, suc, ◌-◌, ◌^◌, sym, ap, ◌∙◌, arith}
+use Rattle.std.proofs.Common.{◌≡◌, ℕ, ◌+◌, ◌^◌, sym, ap, ◌∙◌, add-one, arith, rules}
+use native.Mathlib.Nat as N
 use Rattle.fields.specs.Words.{pow_p}
-use Rattle.fields.proofs.Powers.{square_step, pow_p-one}
+use Rattle.fields.proofs.Powers.{chain_mul, pow_p-one}
 use Rattle.fields.proofs.m31.inner.sqn.Goals as goal
 
-pub loop-left-preserved : goal.loop-left-preserved
-loop-left-preserved c = let at = c.loop-left in
-    let count : suc (at.left - 1) ≡ at.left = omega arith in (
-      omega arith,
-      ap (λ (t : ℕ). pow_p t (2 ^ (at.left - 1))) c.mul-square.ensures ∙ square_step at.square (at.left - 1)
-          ∙ ap (λ (t : ℕ). pow_p at.square (2 ^ t)) count ∙ at.invariant.1,
-    )
+twice : (k : ℕ) → 2 ^ k + 2 ^ k ≡ 2 ^ (k + 1)
+twice k = omega (arith, N.pow-suc 2 k, ap (λ (t : ℕ). 2 ^ t) (add-one k))
+
+pub loop-init : goal.loop-init
+loop-init c = (c.requires, sym (pow_p-one c.args.v c.requires))
+
+pub loop-preserved : goal.loop-preserved
+loop-preserved c = let at = c.loop in (
+  search rules,
+  chain_mul c.args.v (2 ^ at.counter) (2 ^ at.counter) at.invariant.1 at.invariant.1 c.mul-square.ensures
+      ∙ ap (pow_p c.args.v) (twice at.counter),
+)
+
+pub mul-square-requires : goal.mul-square-requires
+mul-square-requires c = (c.loop.invariant.0, c.loop.invariant.0)
 
 pub returns : goal.returns
-returns c = let at = c.loop-left in
-    let none : 0 ≡ at.left = omega arith in
-    sym (pow_p-one at.square at.invariant.0) ∙ ap (λ (t : ℕ). pow_p at.square (2 ^ t)) none ∙ at.invariant.1
+returns c = let all : c.loop.counter ≡ c.args.n = omega arith in c.loop.invariant.1 ∙ ap (λ (t : ℕ). pow_p c.args.v (2 ^ t)) all

@@ -1,7 +1,6 @@
-use Rattle.std.proofs.Common.{rules}
+use Rattle.std.proofs.Common.{arith}
 use Rattle.fields.proofs.Reductions.{unwrap_partly}
 use Rattle.fields.proofs.m31.inner.sub_partly.Goals as goal
 
 pub returns : goal.returns
-returns c = unwrap_partly c.args.a c.args.b c.wrapping_sub_u32-difference.result
-    c.requires.0 c.requires.1 (search rules) c.wrapping_sub_u32-difference.ensures.value
+returns c = unwrap_partly c.args.a c.args.b _ c.requires.0 c.requires.1 (omega arith) (omega arith)

@@ -6,7 +6,7 @@ use Rattle.fields.proofs.qm31.inner.from_partial_evals.Goals as goal
 pub returns : goal.returns
 unfolding partial_evals
 returns c = (
-  c.add-3.ensures.0
-      ∙ ap₂ quartic_words.add (c.add-2.ensures.0 ∙ ap₂ quartic_words.add (c.add.ensures.0 ∙ ap (quartic_words.add _) c.mul-bi.ensures.0) c.mul-cu.ensures.0) c.mul-diu.ensures.0,
-  c.add-3.ensures.1,
+  c.plus-3.ensures.0
+      ∙ ap₂ quartic_words.add (c.plus-2.ensures.0 ∙ ap₂ quartic_words.add (c.plus.ensures.0 ∙ ap (quartic_words.add _) c.times-bi.ensures.0) c.times-cu.ensures.0) c.times-diu.ensures.0,
+  c.plus-3.ensures.1,
 )

@@ -5,7 +5,7 @@ use Rattle.fields.proofs.qm31.inner.mul_second.Goals as goal
 
 pub returns : goal.returns
 returns c = (
-  second_part (pair_of c.args.a) (pair_of c.args.b) (pair_of c.args.c) (pair_of c.args.d)
+  second_part (pair_of c.args.a.0) (pair_of c.args.a.1) (pair_of c.args.b.0) (pair_of c.args.b.1)
       c.product.ensures.0 c.product-2.ensures.0 c.product-3.ensures.0 c.product-4.ensures.0
       c.product-5.ensures.0 c.product-6.ensures.0 c.product-7.ensures.0 c.product-8.ensures.0
       c.product-3.ensures.1 c.product-4.ensures.1 c.reduce_wide-re.ensures c.reduce_wide-im.ensures,

@@ -1,10 +1,5 @@
-use Prim.Native.Nat.{◌-◌, ◌/◌, ◌≤◌}
-use lib.ListN.{length}
 use Rattle.orders.proofs.Columns.{Pairs}
 use Rattle.orders.proofs.utils.inner.bit_reverse_coset_to_circle_domain_order.Given as goal
 
 abbrev pub invariant-loop-x : goal.invariant-loop-x
-invariant-loop-x l = (l.x ≤ length l.initial.v / 2) × Pairs l.log_size l.initial.v l.x l.v
-
-abbrev pub decreases-loop-x : goal.decreases-loop-x
-decreases-loop-x l = length l.initial.v / 2 - l.x
+invariant-loop-x l = Pairs l.log_size l.initial.v l.x l.v

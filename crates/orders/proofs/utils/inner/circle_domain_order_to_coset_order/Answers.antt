@@ -1,27 +1,11 @@
-use Prim.Native.Nat.{◌+◌}
-use mathlib.Core.Path.{sym, subst}
-use borrow.Author.Rules.{rules}
-use Rattle.orders.proofs.Columns.{ToCoset, none_to_coset, all_to_coset, next_to_coset}
+use Rattle.std.proofs.Common.{arith}
+use Rattle.orders.proofs.Copies.{all_to_coset, next_to_coset}
 use Rattle.orders.proofs.utils.inner.circle_domain_order_to_coset_order.Goals as goal
 
-pub loop-i-init : goal.loop-i-init
-loop-i-init c = (search rules, none_to_coset c.args.values.now c.args.dst.now c.requires.1 c.requires.0)
-
-pub copy_pair-requires : goal.copy_pair-requires
-copy_pair-requires c = let long = c.loop-i.invariant.1.long in
-    search rules
-
 pub loop-i-preserved : goal.loop-i-preserved
-loop-i-preserved c = (
-  search rules,
-  subst (ToCoset c.args.values.now c.args.dst.now (c.loop-i.i + 1)) (sym c.copy_pair.ensures)
-      (next_to_coset c.args.values.now c.args.dst.now c.requires.1 c.requires.0 c.loop-i.i c.loop-i.dst (search rules)
-      c.loop-i.invariant.1),
-)
-
-pub shape_of-dst : goal.shape_of-dst
-shape_of-dst c = c.loop-i.invariant.1.long
+loop-i-preserved c =
+    next_to_coset c.args.values.now c.args.dst.now c.requires.1 c.requires.0 c.loop-i.i c.loop-i.dst (omega arith) c.loop-i.invariant
 
 pub returns : goal.returns
-returns c = all_to_coset c.args.values.now c.args.dst.now c.requires.1 c.requires.0 c.loop-i.i c.loop-i.dst (search rules)
-    c.loop-i.invariant.1
+returns c =
+    all_to_coset c.args.values.now c.args.dst.now c.requires.1 c.requires.0 c.loop-i.i c.loop-i.dst (omega arith) c.loop-i.invariant

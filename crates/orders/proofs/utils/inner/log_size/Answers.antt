@@ -1,24 +1,12 @@
-use Prim.Native.Nat.{◌^◌}
-use mathlib.Core.Path.{sym, ◌∙◌}
-use native.Mathlib.Omega.{arith}
-use borrow.Author.Tests.{eq-eqb, ne_eqb}
-use borrow.Author.Rules.{rules}
-use Rattle.fields.specs.SearchLaws.{none_start, none_next, first_at, first_none}
+use Rattle.std.proofs.Common.{sym, ◌∙◌, eqb-true, count_ones}
+use Rattle.orders.proofs.LogSize.{size_found, no_size, no_power, one_bit_is_power}
 use Rattle.orders.proofs.utils.inner.log_size.Goals as goal
 
-pub loop-n-init : goal.loop-n-init
-loop-n-init c = (search rules, none_start _)
+pub returns-then-is_power_of_two : goal.returns-then-is_power_of_two
+returns-then-is_power_of_two c =
+    let one = eqb-true (count_ones c.args.size) 1 (sym c.is_power_of_two.ensures ∙ c.if-is_power_of_two.true) in
+    let found = c.ilog2.ensures in
+    size_found _ _ found.bound (one_bit_is_power _ _ found.power_le found.next_power_gt one)
 
-pub returns-then-two_to-size : goal.returns-then-two_to-size
-returns-then-two_to-size c = first_at _ 64 c.loop-n.n (search rules) c.loop-n.invariant.1 (eq-eqb (2 ^ c.loop-n.n) c.args.size
-    (sym c.two_to.ensures ∙ c.if-two_to-size.true))
-
-pub loop-n-preserved : goal.loop-n-preserved
-loop-n-preserved c = (
-  search rules,
-  none_next _ c.loop-n.n c.loop-n.invariant.1 (ne_eqb (2 ^ c.loop-n.n) c.args.size
-      (λ e. c.if-two_to-size.false (c.two_to.ensures ∙ e))),
-)
-
-pub returns : goal.returns
-returns c = first_none _ 64 c.loop-n.n (omega arith) c.loop-n.invariant.1
+pub returns-else-is_power_of_two : goal.returns-else-is_power_of_two
+returns-else-is_power_of_two c = no_size _ (λ n. no_power n _ (sym c.is_power_of_two.ensures ∙ c.if-is_power_of_two.false))

@@ -1,24 +1,14 @@
-use borrow.Author.Rules.{rules}
-use Rattle.fields.specs.AnswerLaws.{answers}
-use Rattle.orders.specs.Orders.{offset_element}
-use Prim.Native.Nat.{ℕ, ◌+◌, ◌-◌}
-use mathlib.Core.Path.{ap}
-use mathlib.Core.Bool.{not}
-use native.Mathlib.Omega.{arith}
-use Rattle.orders.proofs.Offsets.{moved_below}
+use Rattle.std.proofs.Common.{rules, to_z-of_z, ◌-ℤ◌, pos, FitsSigned, w64}
+use Rattle.orders.proofs.Offsets.{on_first_half, on_second_half}
 use Rattle.orders.proofs.utils.inner.offset_element.Goals as goal
 
 pub returns-then-p-half : goal.returns-then-p-half
-unfolding offset_element
-returns-then-p-half c = search (answers, rules)
+returns-then-p-half c = let same = to_z-of_z c.ranges.steps in
+    on_first_half c.args.half c.args.p _ c.args.steps c.if-p-half.true (rw same at c.moved.ensures)
 
-pub overflow_add-result : goal.overflow_add-result
-overflow_add-result c = let args = c.args in
-    let low = moved_below (not args.back) args.half (args.p - args.half) args.s c.requires.some in
-    record { fits = omega (arith, c.moved-2.ensures) }
-
-pub returns : goal.returns
-unfolding offset_element
-returns c = let half = c.args.half in
-    let sum = ap (λ (t : ℕ). t + half) c.moved-2.ensures in
-    search (answers, rules)
+pub returns-else-p-half : goal.returns-else-p-half
+returns-else-p-half c = let same = to_z-of_z c.ranges.steps in
+    let fits : FitsSigned w64 (pos 0 -ℤ c.args.steps) = search rules in
+    let back = to_z-of_z fits in
+    on_second_half c.args.half c.args.p _ c.args.steps c.requires.some c.if-p-half.false
+    (rw (same, back) at c.moved-else-p-half.ensures)

@@ -1,12 +1,13 @@
-use borrow.Author.Rules.{rules}
-use Rattle.fields.specs.AnswerLaws.{answers}
-use Rattle.orders.specs.Swaps.{swapped_if_before}
+use Rattle.std.proofs.Common.{sym, ◌∙◌}
+use Rattle.orders.proofs.Turns.{swapped_before, not_swapped}
 use Rattle.orders.proofs.utils.inner.swap_if_before.Goals as goal
 
-pub returns-then-t-u : goal.returns-then-t-u
-unfolding swapped_if_before
-returns-then-t-u c = search (answers, rules)
+pub returns-then-i-j : goal.returns-then-i-j
+returns-then-i-j c = let i = c.args.i in
+    let j = c.args.j in
+    c.swap.ensures.after ∙ sym (swapped_before i j i j c.args.v.now c.requires.0 c.requires.1 c.if-i-j.true)
 
-pub returns-else-t-u : goal.returns-else-t-u
-unfolding swapped_if_before
-returns-else-t-u c = search (answers, rules)
+pub returns-else-i-j : goal.returns-else-i-j
+returns-else-i-j c = let i = c.args.i in
+    let j = c.args.j in
+    sym (not_swapped i j i j c.args.v.now c.if-i-j.false)

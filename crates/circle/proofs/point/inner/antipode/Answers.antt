@@ -1,6 +1,0 @@
-use Rattle.fields.specs.PairLaws.{pair_path}
-use Rattle.std.proofs.Common.{rules}
-use Rattle.circle.proofs.point.inner.antipode.Goals as goal
-
-pub returns : goal.returns
-returns c = (pair_path (search rules) (search rules), (search rules, search rules))

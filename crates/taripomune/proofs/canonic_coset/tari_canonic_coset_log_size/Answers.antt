@@ -1,7 +1,0 @@
-use mathlib.Core.Path.{◌∙◌, ap}
-use Rattle.domains.specs.Canonic.{log_size_answer}
-use Rattle.taripomune.specs.Reply.{u32_reply}
-use Rattle.taripomune.proofs.canonic_coset.tari_canonic_coset_log_size.Goals as goal
-
-pub returns : goal.returns
-returns c = c.u32_reply.ensures ∙ ap u32_reply (c.log_size.ensures ∙ ap log_size_answer c.canonic_coset-c.ensures)

@@ -1,6 +1,0 @@
-use mathlib.Core.Path.{◌∙◌, ap}
-use Rattle.taripomune.specs.CosetReply.{canonic_coset_reply}
-use Rattle.taripomune.proofs.canonic_coset.tari_canonic_coset_new.Goals as goal
-
-pub returns : goal.returns
-returns c = c.canonic_coset_reply.ensures ∙ ap canonic_coset_reply c.new.ensures

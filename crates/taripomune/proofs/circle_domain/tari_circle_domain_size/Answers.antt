@@ -1,7 +1,0 @@
-use mathlib.Core.Path.{◌∙◌, ap}
-use Rattle.domains.specs.Domain.{size_answer}
-use Rattle.taripomune.specs.Reply.{u64_reply}
-use Rattle.taripomune.proofs.circle_domain.tari_circle_domain_size.Goals as goal
-
-pub returns : goal.returns
-returns c = c.u64_reply.ensures ∙ ap u64_reply (c.size.ensures ∙ ap size_answer c.circle_domain-d.ensures)

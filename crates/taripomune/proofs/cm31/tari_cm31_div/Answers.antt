@@ -1,6 +1,0 @@
-use mathlib.Core.Path.{◌∙◌, ap}
-use Rattle.taripomune.specs.Reply.{cm31_reply}
-use Rattle.taripomune.proofs.cm31.tari_cm31_div.Goals as goal
-
-pub returns : goal.returns
-returns c = c.cm31_reply.ensures ∙ ap cm31_reply c.div.ensures

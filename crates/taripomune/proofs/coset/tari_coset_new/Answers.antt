@@ -1,6 +1,0 @@
-use mathlib.Core.Path.{◌∙◌, ap}
-use Rattle.taripomune.specs.CosetReply.{coset_reply}
-use Rattle.taripomune.proofs.coset.tari_coset_new.Goals as goal
-
-pub returns : goal.returns
-returns c = c.coset_reply.ensures ∙ ap coset_reply c.new.ensures

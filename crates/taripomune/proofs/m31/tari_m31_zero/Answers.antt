@@ -1,8 +1,0 @@
-use mathlib.Core.Path.{◌∙◌, ap}
-use Rattle.fields.specs.declared.m31.M31.{M31}
-use Rattle.fields.specs.declared.m31.M31Answer.TheVariants.{Value}
-use Rattle.taripomune.specs.Reply.{m31_reply}
-use Rattle.taripomune.proofs.m31.tari_m31_zero.Goals as goal
-
-pub returns : goal.returns
-returns c = c.m31_reply.ensures ∙ ap (λ (a : M31). m31_reply (Value a)) c.zero.ensures

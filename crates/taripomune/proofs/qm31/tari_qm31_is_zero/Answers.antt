@@ -1,6 +1,0 @@
-use mathlib.Core.Path.{◌∙◌, ap}
-use Rattle.taripomune.specs.Reply.{bool_reply}
-use Rattle.taripomune.proofs.qm31.tari_qm31_is_zero.Goals as goal
-
-pub returns : goal.returns
-returns c = c.bool_reply.ensures ∙ ap bool_reply c.is_zero.ensures

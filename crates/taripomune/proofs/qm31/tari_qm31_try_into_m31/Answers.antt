@@ -1,6 +1,0 @@
-use mathlib.Core.Path.{◌∙◌, ap}
-use Rattle.taripomune.specs.Reply.{m31_reply}
-use Rattle.taripomune.proofs.qm31.tari_qm31_try_into_m31.Goals as goal
-
-pub returns : goal.returns
-returns c = c.m31_reply.ensures ∙ ap m31_reply c.try_into_m31.ensures
