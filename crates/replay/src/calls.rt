@@ -13,26 +13,21 @@ mod replies;
 mod secure_point;
 mod version;
 
-use crate::reply::{Reply, unknown};
-use crate::row::Row;
+use crate::answer::Answer;
+use crate::line::Line;
 
-// How many modules have calls that take numbers alone.
-pub const MODULES: usize = 11;
-
-// The call of a name that takes numbers alone, if this module has it.
-pub fn called_in(module: usize, name: &[u8], row: Row) -> Reply {
-    match module {
-        0 => canonic_coset::called(name, row),
-        1 => circle_domain::called(name, row),
-        2 => cm31::called(name, row),
-        3 => column_orders::called(name, row),
-        4 => coset::called(name, row),
-        5 => index::called(name, row),
-        6 => m31::called(name, row),
-        7 => point::called(name, row),
-        8 => qm31::called(name, row),
-        9 => secure_point::called(name, row),
-        10 => version::called(name, row),
-        _ => unknown(),
-    }
+/// The answer to a call that takes numbers alone, where there is one of this name and the arguments are its. Each call is
+/// an arm of a `match` on names: a table would need a wrapper for each, since they take numbers of different types.
+pub fn answer_of(line: &Line<'_>) -> Option<Answer> {
+    canonic_coset::answer_of(line)
+        .or_else(|| circle_domain::answer_of(line))
+        .or_else(|| cm31::answer_of(line))
+        .or_else(|| column_orders::answer_of(line))
+        .or_else(|| coset::answer_of(line))
+        .or_else(|| index::answer_of(line))
+        .or_else(|| m31::answer_of(line))
+        .or_else(|| point::answer_of(line))
+        .or_else(|| qm31::answer_of(line))
+        .or_else(|| secure_point::answer_of(line))
+        .or_else(|| version::answer_of(line))
 }

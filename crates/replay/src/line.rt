@@ -1,91 +1,78 @@
 // Lines of a list of answers: NAME ARG .. ARG = NUMBER POSITION VALUE .. VALUE, single spaces between.
-ghost use Rattle.std.specs.Prelude.{◌+◌, ◌-◌, ◌≤◌, length};
+ghost use Rattle.std.specs.Prelude.{◌≤◌};
+ghost use Rattle.arrayvec.specs.ArrayVec.{array_vec_len};
 
-// Where the next byte `stop` is from `at` on, or where the text ends.
-pub fn until(text: &[u8], at: usize, stop: u8) -> usize
-    ensures { (at ≤ result) × (result ≤ at + (length text.now - at)) }
-{
-    let mut i = at;
-    while i < text.len() {
-        if text[i] == stop {
-            return i;
+use crate::arguments::Arguments;
+use arrayvec::ArrayVec;
+
+/// The most numbers of a line.
+pub const MOST: usize = 64;
+
+/// Numbers in a row. They go from -2^64 + 1 to 2^64 - 1, so that every argument and every answer is one.
+pub type Numbers = ArrayVec<i128, MOST>;
+
+/// A call's name, and its arguments and what it should answer as the numbers before and after the sign =. They lie in one
+/// row, since a line has room for so many in all.
+#[derive(Drop)]
+pub struct Line<'a> {
+    pub name: &'a str,
+    numbers: Numbers,
+    sign: usize,
+    ghost sign_among: { sign ≤ array_vec_len numbers },
+}
+
+impl<'a> Line<'a> {
+    /// The line of a text, where it reads so.
+    pub fn read(text: &'a [u8]) -> Option<Line<'a>> {
+        let mut words = str::from_utf8(text).ok()?.split(' ');
+        let name = words.next()?;
+        let mut numbers = Numbers::new();
+        let mut sign = None;
+        for word in words {
+            if word != "=" {
+                numbers.try_push(number_of(word)?).ok()?;
+            } else if sign.is_none() {
+                sign = Some(numbers.len());
+            } else {
+                return None;
+            }
         }
-        i += 1;
+        let sign = sign?;
+        Some(Line {
+            name,
+            numbers,
+            sign,
+        })
     }
-    i
+
+    pub fn arguments(&self) -> Arguments<'_> {
+        Arguments::new(&self.numbers.as_slice()[..self.sign])
+    }
+
+    pub fn answer(&self) -> &[i128] {
+        &self.numbers.as_slice()[self.sign..]
+    }
 }
 
 pub fn is_comment(line: &[u8]) -> bool {
-    if line.len() == 0 {
-        return false;
-    }
-    line[0] == b'#'
+    line.starts_with(b"#")
 }
 
-// A word of a line: the size of a number from zero on or of one below zero, or no number.
-#[derive(Clone, Copy)]
-pub enum Number {
-    Natural(u64),
-    Negative(u64),
-    Bad,
-}
-
-// One more decimal digit, where the number stays below 2^64.
-fn digit(before: Number, byte: u8) -> Number {
-    let Number::Natural(value) = before else {
-        return Number::Bad;
-    };
-    if byte < b'0' {
-        return Number::Bad;
+// The number of one or more digits, where it is below 2^64. `parse` would take a sign + too.
+fn natural_of(digits: &str) -> Option<u64> {
+    if digits.starts_with('+') {
+        return None;
     }
-    if b'9' < byte {
-        return Number::Bad;
-    }
-    if 1844674407370955161 < value {
-        return Number::Bad;
-    }
-    let tens = value * 10;
-    let units = (byte - b'0') as u64;
-    if 18446744073709551615 - units < tens {
-        return Number::Bad;
-    }
-    Number::Natural(tens + units)
-}
-
-// The number of one or more digits.
-fn digits(word: &[u8]) -> Number {
-    if word.len() == 0 {
-        return Number::Bad;
-    }
-    let mut n = Number::Natural(0);
-    let mut i = 0;
-    while i < word.len() {
-        n = digit(n, word[i]);
-        i += 1;
-    }
-    n
-}
-
-fn negated(n: Number) -> Number {
-    match n {
-        Number::Natural(size) => {
-            if size == 0 {
-                return Number::Bad;
-            }
-            Number::Negative(size)
-        }
-        Number::Negative(_) => Number::Bad,
-        Number::Bad => Number::Bad,
-    }
+    digits.parse::<u64>().ok()
 }
 
 // The number of a word in decimal, with the sign - below zero.
-pub fn number_of(word: &[u8]) -> Number {
-    if word.len() == 0 {
-        return Number::Bad;
+fn number_of(word: &str) -> Option<i128> {
+    match word.strip_prefix('-') {
+        None => natural_of(word).map(i128::from),
+        Some(digits) => match natural_of(digits)? {
+            0 => None,
+            size => Some(-i128::from(size)),
+        },
     }
-    if word[0] == b'-' {
-        return negated(digits(&word[1..]));
-    }
-    digits(word)
 }

@@ -1,155 +1,121 @@
 // Replays the recorded answers of data/ through the calls of the C interface, and prints how many came out as recorded.
 #![tactic(auto)]
 
-ghost use Rattle.std.specs.Prelude.{◌≤◌, length, IfOk};
-
+mod answer;
 mod arguments;
 mod calls;
 mod line;
-mod long_columns;
-mod reply;
-mod row;
 mod slices;
-mod values;
 
-use crate::arguments::Form;
+use crate::answer::Answer;
+use crate::line::{Line, MOST, is_comment};
+use crate::slices::{LONGEST, Rule, Words};
+use arrayvec::ArrayVec;
 use std::fs::File;
 use std::io;
 use std::io::Read;
 
-#[derive(Clone, Copy)]
+/// How many bytes of a list are read. One that has as many may go on.
+const LIMIT: usize = 65536;
+
+/// The lists in which a slice is given by its words, but for that of damaged lines.
+const LISTS: [&str; 14] = [
+    "version.txt",
+    "m31.txt",
+    "cm31.txt",
+    "qm31.txt",
+    "batch.txt",
+    "point.txt",
+    "secure_point.txt",
+    "index.txt",
+    "orders.txt",
+    "coset.txt",
+    "canonic_coset.txt",
+    "circle_domain.txt",
+    "contradicting_records.txt",
+    "transform.txt",
+];
+
+/// How many calls answered as their lines say, and how many otherwise.
+#[derive(Clone, Copy, Default)]
 struct Tally {
     same: u64,
     different: u64,
 }
 
-fn counted(t: Tally, same: bool) -> Tally {
-    if same {
-        return Tally {
-            same: std::num::wrapping_add_u64(t.same, 1),
-            different: t.different,
+impl Tally {
+    fn count(&mut self, same: bool) {
+        let calls = if same {
+            &mut self.same
+        } else {
+            &mut self.different
         };
-    }
-    Tally {
-        same: t.same,
-        different: std::num::wrapping_add_u64(t.different, 1),
+        *calls = calls.saturating_add(1);
     }
 }
 
-// The call of a name that takes numbers alone, in the first of so many modules that has it.
-fn called_on_numbers(modules: usize, name: &[u8], row: row::Row) -> reply::Reply {
-    let mut i: usize = 0;
-    while i < modules {
-        let reply = calls::called_in(i, name, row);
-        if reply.count != 0 {
-            return reply;
-        }
-        i += 1;
-    }
-    reply::unknown()
+/// The calls of a list.
+trait List {
+    /// The answer to a call, where there is one of its name and the arguments are its.
+    fn answer_of(line: &Line<'_>) -> Option<Answer>;
 }
 
-fn called_on_words(name: &[u8], row: row::Row) -> reply::Reply {
-    let reply = called_on_numbers(calls::MODULES, name, row);
-    if reply.count != 0 {
-        return reply;
+/// A list in which slices are given by their words has calls on numbers alone too.
+impl List for Words {
+    fn answer_of(line: &Line<'_>) -> Option<Answer> {
+        calls::answer_of(line).or_else(|| slices::answer_of::<Words, MOST>(line))
     }
-    slices::called(name, row)
 }
 
-// The call of a line whose slices have a form.
-fn called(form: Form, name: &[u8], row: row::Row) -> reply::Reply {
-    match form {
-        Form::Words => called_on_words(name, row),
-        Form::Rule => long_columns::called(name, row),
+impl List for Rule {
+    fn answer_of(line: &Line<'_>) -> Option<Answer> {
+        slices::answer_of::<Rule, LONGEST>(line)
     }
 }
 
 // Whether the line's call answers as the line says.
-fn as_recorded(form: Form, line: &[u8]) -> bool {
-    let end = line::until(line, 0, b' ');
-    let row = row::read(line, end);
-    if row.bad {
+fn is_as_recorded<L: List>(text: &[u8]) -> bool {
+    let Some(line) = Line::read(text) else {
         return false;
-    }
-    row::answers(row, called(form, &line[..end], row))
-}
-
-// A comment says nothing; any other line is an answer.
-fn replayed(form: Form, t: Tally, line: &[u8]) -> Tally {
-    if line::is_comment(line) {
-        return t;
-    }
-    counted(t, as_recorded(form, line))
-}
-
-// The lines of a text.
-fn replayed_all(form: Form, text: &[u8]) -> Tally {
-    let mut t = Tally {
-        same: 0,
-        different: 0,
     };
-    let mut at = 0;
-    while at < text.len() {
-        let end = line::until(text, at, b'\n');
-        t = replayed(form, t, &text[at..end]);
-        at = end + 1;
-    }
-    t
+    L::answer_of(&line).is_some_and(|answer| answer.numbers() == line.answer())
 }
 
-fn report(rt: &HostRuntime, name: &str, t: Tally) -> io::Result<()> {
-    println!(rt;
-        "{name}: {} answers as recorded, {} different",
-        t.same, t.different
-    )
-}
-
-// Reads until the buffer is full or the file ends; how many bytes it read.
-fn read_full(file: &mut File, buffer: &mut [u8]) -> io::Result<usize>
-    ensures { IfOk result (λ n. n ≤ length buffer.new) }
-{
-    let mut done = 0;
-    while done < buffer.len() {
-        let n = file.read(&mut buffer[done..])?;
-        if n == 0 {
-            break;
+// The lines of a text. A comment says nothing; any other line is an answer. With `split`, what follows the last line's end
+// would be a line too.
+fn replayed<L: List>(text: &[u8]) -> Tally {
+    let mut tally = Tally::default();
+    for line in text.split_inclusive(|byte| *byte == b'\n') {
+        let line = line.strip_suffix(b"\n").unwrap_or(line);
+        if !is_comment(line) {
+            tally.count(is_as_recorded::<L>(line));
         }
-        done += n;
     }
-    Ok(done)
+    tally
 }
 
-// A list that can't be opened is reported, and the next one follows. One that fills the buffer may go on: it is reported as
-// too long, and not replayed.
-fn replay(rt: &HostRuntime, form: Form, name: &str) -> io::Result<()> {
-    let mut file = match File::open(rt, name) {
+// A list that can't be opened is reported, and the next one follows. One that is too long is reported, and not replayed.
+fn replay<L: List>(rt: &HostRuntime, name: &str) -> io::Result<()> {
+    let file = match File::open(rt, name) {
         Ok(file) => file,
         Err(why) => return eprintln!(rt; "{name}: {why}"),
     };
-    let mut buffer = [0u8; 65536];
-    let n = read_full(&mut file, &mut buffer)?;
-    if n == 65536 {
+    let mut text = ArrayVec::<u8, LIMIT>::new();
+    io::copy(&mut file.take(LIMIT as u64), &mut text)?;
+    if text.is_full() {
         return println!(rt; "{name}: too long");
     }
-    report(rt, name, replayed_all(form, &buffer[..n]))
+    let tally = replayed::<L>(text.as_slice());
+    println!(rt;
+        "{name}: {} answers as recorded, {} different",
+        tally.same, tally.different
+    )
 }
 
 fn main(rt: HostRuntime) -> io::Result<()> {
-    replay(&rt, Form::Words, "version.txt")?;
-    replay(&rt, Form::Words, "m31.txt")?;
-    replay(&rt, Form::Words, "cm31.txt")?;
-    replay(&rt, Form::Words, "qm31.txt")?;
-    replay(&rt, Form::Words, "batch.txt")?;
-    replay(&rt, Form::Words, "point.txt")?;
-    replay(&rt, Form::Words, "secure_point.txt")?;
-    replay(&rt, Form::Words, "index.txt")?;
-    replay(&rt, Form::Words, "orders.txt")?;
-    replay(&rt, Form::Words, "coset.txt")?;
-    replay(&rt, Form::Words, "canonic_coset.txt")?;
-    replay(&rt, Form::Words, "circle_domain.txt")?;
-    replay(&rt, Form::Words, "contradicting_records.txt")?;
-    replay(&rt, Form::Words, "transform.txt")?;
-    replay(&rt, Form::Rule, "long_columns.txt")?;
-    replay(&rt, Form::Words, "damaged.txt")
+    for name in LISTS {
+        replay::<Words>(&rt, name)?;
+    }
+    replay::<Rule>(&rt, "long_columns.txt")?;
+    replay::<Words>(&rt, "damaged.txt")
 }

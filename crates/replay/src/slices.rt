@@ -1,109 +1,139 @@
 // The calls on slices, and what they leave in them.
 ghost use Rattle.std.specs.Prelude.{◌≤◌};
 
-use crate::arguments::{Arguments, Form, value_at};
-use crate::calls::on_slices::{answered, arguments_of};
-use crate::long_columns::check_sum;
-use crate::reply::{Reply, with_number, with_words};
-use crate::row::{MOST, Row};
-use crate::values::word_of;
+use crate::answer::Answer;
+use crate::arguments::Arguments;
+use crate::calls::on_slices;
+use crate::line::Line;
 
-// The reply with what a call leaves in a slice, if it writes it: the words, or of a slice by rule their check sum.
-fn with_slice(reply: Reply, form: Form, kind: u8, words: &[u32]) -> Reply {
-    match kind {
-        b'c' | b's' => match form {
-            Form::Words => with_words(reply, words),
-            Form::Rule => with_number(reply, check_sum(words)),
-        },
-        _ => reply,
+/// What a call does with a slice.
+#[derive(Clone, Copy, PartialEq, Eq)]
+pub enum Access {
+    Reads,
+    Writes,
+    /// An accepted call leaves the first words of scratch, as many as the column has, as anything.
+    Scratch,
+}
+
+/// What a call on slices takes: so many numbers, one slice or two, and so many numbers.
+#[derive(Clone, Copy)]
+pub struct Parameters {
+    pub before: usize,
+    pub first: Access,
+    pub second: Option<Access>,
+    pub after: usize,
+}
+
+impl Access {
+    fn writes(self) -> bool {
+        self != Access::Reads
     }
 }
 
-// The word that is held at a place before `end`; at others the word itself.
-fn held_before(held: &[u32], end: usize, i: usize, word: u32) -> u32 {
-    if i < end {
-        if i < held.len() {
-            return held[i];
+/// How the lines of a list give the slices of their calls.
+pub trait Form {
+    /// Takes a slice from the arguments. Its words are written to the front of those that are lent.
+    fn take<'a>(arguments: &mut Arguments<'_>, words: &'a mut [u32]) -> Option<&'a mut [u32]>;
+
+    /// Adds what a call left in a slice to its answer, where there is room.
+    fn record(words: &[u32], answer: &mut Answer) -> Option<()>;
+}
+
+/// A slice is its length and then its words.
+pub struct Words;
+
+impl Form for Words {
+    fn take<'a>(arguments: &mut Arguments<'_>, words: &'a mut [u32]) -> Option<&'a mut [u32]> {
+        let [length] = arguments.take::<usize, 1>()?;
+        let numbers = arguments.numbers(length)?;
+        let words = words.get_mut(..length)?;
+        for (word, number) in words.iter_mut().zip(numbers) {
+            *word = u32::try_from(*number).ok()?;
         }
+        Some(words)
     }
-    word
+
+    fn record(words: &[u32], answer: &mut Answer) -> Option<()> {
+        for word in words {
+            answer.push(i128::from(*word))?;
+        }
+        Some(())
+    }
 }
 
-// Puts the words before `end` back.
-fn put_back(words: &mut [u32], held: &[u32], end: usize) {
-    let mut i = 0;
-    while i < words.len() {
-        words[i] = held_before(held, end, i, words[i]);
-        i += 1;
+/// The most words of a slice by rule: 2^17, and some more for scratch.
+pub const LONGEST: usize = 131136;
+
+/// A slice is a rule of four numbers: its length, a seed, a place and a word. The seed is the first word, each next one is
+/// 16807 times the one before modulo P; then the word goes to the place, if the slice has it.
+pub struct Rule;
+
+// The word after another by the rule.
+fn after(word: u32) -> u32 {
+    (u64::from(word) * 16807 % 2147483647) as u32
+}
+
+impl Form for Rule {
+    fn take<'a>(arguments: &mut Arguments<'_>, words: &'a mut [u32]) -> Option<&'a mut [u32]> {
+        let [length] = arguments.take::<usize, 1>()?;
+        let [seed] = arguments.take::<u32, 1>()?;
+        let [place] = arguments.take::<usize, 1>()?;
+        let [word] = arguments.take::<u32, 1>()?;
+        let words = words.get_mut(..length)?;
+        let mut next = seed;
+        for to in words.iter_mut() {
+            *to = next;
+            next = after(next);
+        }
+        if let Some(to) = words.get_mut(place) {
+            *to = word;
+        }
+        Some(words)
+    }
+
+    // Of a long slice its check sum: from 0 on, each word is added to 48271 times the sum before it modulo the prime
+    // 2^40 - 87.
+    fn record(words: &[u32], answer: &mut Answer) -> Option<()> {
+        let mut sum = 0u64;
+        for word in words {
+            sum = sum % 1099511627689 * 48271 + u64::from(*word);
+        }
+        answer.push(i128::from(sum))
     }
 }
 
-// An accepted call leaves the first words of scratch, as many as the column has, as anything: they are recorded as they
-// were held before.
-fn put_back_free(reply: Reply, kind: u8, words: &mut [u32], held: &[u32], size: usize) {
-    if kind != b's' {
-        return;
-    }
-    if reply.numbers[0] != 0 {
-        return;
-    }
-    put_back(words, held, size);
-}
-
-// `held` is what the second slice holds before the call.
-pub fn replied(
-    a: Arguments,
-    form: Form,
-    first: &mut [u32],
-    second: &mut [u32],
-    held: &[u32],
-) -> Reply {
-    let numbers = a.numbers;
-    let reply = answered(a.place, numbers, first, second);
-    if reply.count == 0 {
-        return reply;
-    }
-    put_back_free(reply, a.second_kind, second, held, first.len());
-    let one = with_slice(reply, form, a.first_kind, first);
-    with_slice(one, form, a.second_kind, second)
-}
-
-// The length of the slice at a place, at most MOST.
-fn length_at(row: Row, at: usize) -> usize
-    ensures { result ≤ 64 }
+/// The answer to a call on slices of at most N words, where there is one of this name and the arguments are its. The words
+/// lie in arrays, since the program allocates nothing.
+pub fn answer_of<F: Form, const N: usize>(line: &Line<'_>) -> Option<Answer>
+    requires { N ≤ LONGEST }
 {
-    let length = value_at(row, at) as usize;
-    if MOST < length {
-        return MOST;
+    let parameters = on_slices::parameters_of(line.name)?;
+    let mut first = [0u32; N];
+    let mut second = [0u32; N];
+    let mut held = [0u32; N];
+    let mut arguments = line.arguments();
+    let before = arguments.numbers(parameters.before)?;
+    let first = F::take(&mut arguments, &mut first)?;
+    let second = match parameters.second {
+        None => second.get_mut(..0)?,
+        Some(_) => F::take(&mut arguments, &mut second)?,
+    };
+    let after = arguments.numbers(parameters.after)?;
+    arguments.end()?;
+    let held = held.get_mut(..second.len())?;
+    held.copy_from_slice(second);
+    let mut answer = on_slices::answer_of(line.name, before, first, second, after)?;
+    // What an accepted call leaves in scratch is free: it is recorded as it was held before.
+    if parameters.second == Some(Access::Scratch) && answer.is_accepted() {
+        second
+            .get_mut(..first.len())?
+            .copy_from_slice(held.get(..first.len())?);
     }
-    length
-}
-
-// The words after the length at a place, and 0 past the last.
-fn words_at(row: Row, at: usize) -> [u32; MOST] {
-    let mut words = [0u32; MOST];
-    let mut i = 0;
-    let mut from = at;
-    while i < MOST {
-        from = std::num::wrapping_add_usize(from, 1);
-        words[i] = word_of(value_at(row, from));
-        i += 1;
+    if parameters.first.writes() {
+        F::record(first, &mut answer)?;
     }
-    words
-}
-
-pub fn called(name: &[u8], row: Row) -> Reply {
-    let a = arguments_of(name, row, Form::Words);
-    let n = length_at(row, a.first);
-    let m = length_at(row, a.second);
-    let mut first = words_at(row, a.first);
-    let mut second = words_at(row, a.second);
-    let held = words_at(row, a.second);
-    replied(
-        a,
-        Form::Words,
-        &mut first[..n],
-        &mut second[..m],
-        &held[..m],
-    )
+    if parameters.second.is_some_and(Access::writes) {
+        F::record(second, &mut answer)?;
+    }
+    Some(answer)
 }

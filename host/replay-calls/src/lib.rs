@@ -21,6 +21,9 @@ const HEAD: &str = "// Written by host/replay-calls from include/taripomune.h.";
 /// How long a line may be.
 const WIDTH: usize = 100;
 
+/// How long the arguments of a call may be that stand on one line.
+const CALL_WIDTH: usize = 60;
+
 /// The files by name, in `rt fmt`'s layout.
 pub fn files(root: &Path) -> BTreeMap<String, String> {
     let library = Library::read(root);
@@ -34,64 +37,58 @@ pub fn files(root: &Path) -> BTreeMap<String, String> {
     files
 }
 
-/// The table by which `arguments` finds a call and the kinds of its arguments, an entry a line.
-fn table(prototypes: &[&Prototype]) -> String {
-    let entries: Vec<String> = prototypes.iter().map(|p| format!("{}:{}", name(p), kinds(p))).collect();
-    format!("    let table = b\"{}\";\n", entries.join(" \\\n        "))
+/// What a function of the library takes as an argument.
+#[derive(Clone, Copy, PartialEq, Eq, PartialOrd, Ord)]
+enum Kind {
+    U32,
+    U64,
+    I32,
+    I64,
+    Read,
+    Written,
+    Scratch,
+}
+
+impl Kind {
+    fn of(variable: &Variable) -> Kind {
+        match (&variable.pointer, variable.rust_type) {
+            (Some(Pointer::Const), "u32") => Kind::Read,
+            (Some(Pointer::Mut), "u32") if variable.name == "scratch" => Kind::Scratch,
+            (Some(Pointer::Mut), "u32") => Kind::Written,
+            (None, "u32") => Kind::U32,
+            (None, "u64") => Kind::U64,
+            (None, "i32") => Kind::I32,
+            (None, "i64") => Kind::I64,
+            _ => panic!("replay has no kind for the parameter {}", variable.name),
+        }
+    }
+
+    fn is_slice(self) -> bool {
+        matches!(self, Kind::Read | Kind::Written | Kind::Scratch)
+    }
+}
+
+fn kinds(prototype: &Prototype) -> Vec<Kind> {
+    prototype.rattle_parameters().map(Kind::of).collect()
 }
 
 fn name(prototype: &Prototype) -> &str {
     prototype.name.strip_prefix("tari_").unwrap()
 }
 
-/// The letters of `crates/replay/src/arguments.rt`.
-fn kinds(prototype: &Prototype) -> String {
-    prototype.rattle_parameters().map(kind).collect()
-}
-
-fn kind(variable: &Variable) -> char {
-    match (&variable.pointer, variable.rust_type) {
-        (Some(Pointer::Const), "u32") => 'r',
-        (Some(Pointer::Mut), "u32") if variable.name == "scratch" => 's',
-        (Some(Pointer::Mut), "u32") => 'c',
-        (None, "u32") => 'w',
-        (None, "u64") => 'd',
-        (None, "i32") => 'i',
-        (None, "i64") => 'l',
-        _ => panic!("replay has no kind for the parameter {}", variable.name),
+/// An arm of the `match` on a call's name.
+fn arm(prototype: &Prototype, function: &str, arguments: &[String]) -> String {
+    let head = format!("        \"{}\" => ", name(prototype));
+    let list = arguments.join(", ");
+    let call = format!("{function}({list}).into()");
+    if head.len() + call.len() < WIDTH && list.len() <= CALL_WIDTH {
+        return format!("{head}{call},\n");
     }
-}
-
-/// The function of `crates/replay/src/values.rt` that gives a number its type.
-fn value(kind: char) -> &'static str {
-    match kind {
-        'w' => "word",
-        'd' => "wide",
-        'i' => "signed",
-        _ => "signed_wide",
+    if 12 + call.len() <= WIDTH && list.len() <= CALL_WIDTH {
+        return format!("{head}{{\n            {call}\n        }}\n");
     }
-}
-
-/// The `match` on a call's place in its table, where the first of these calls has the place `first`.
-fn arms(prototypes: &[&Prototype], first: usize, call: impl Fn(&Prototype) -> (String, Vec<String>)) -> String {
-    let arm = |(i, prototype): (usize, &&Prototype)| {
-        let place = first + i;
-        let (function, arguments) = call(prototype);
-        let reply = replies::function(&prototype.reply);
-        let list = arguments.join(", ");
-        let line = format!("        {place} => {reply}({function}({list})),\n");
-        if line.len() <= WIDTH + 1 && list.len() <= 60 {
-            return line;
-        }
-        let is_name = |argument: &String| argument.chars().all(|c| c.is_ascii_alphanumeric());
-        let list = match arguments.iter().all(is_name) {
-            true => filled(&arguments, 12),
-            false => arguments.iter().map(|argument| format!("            {argument},\n")).collect(),
-        };
-        format!("        {place} => {reply}({function}(\n{list}        )),\n")
-    };
-    let arms: String = prototypes.iter().enumerate().map(arm).collect();
-    format!("    match place {{\n{arms}        _ => unknown(),\n    }}\n")
+    let end = if list.len() <= CALL_WIDTH { ").into()" } else { ")\n        .into()" };
+    format!("{head}{function}(\n{}        {end},\n", filled(arguments, 12))
 }
 
 /// The lines that bring names into a file, one for the names of a module.
@@ -124,13 +121,4 @@ fn filled(words: &[String], indent: usize) -> String {
         }
     }
     lines.join("\n") + "\n"
-}
-
-fn replies_used(prototypes: &[&Prototype]) -> Vec<String> {
-    prototypes.iter().map(|p| format!("crate::calls::replies::{}", replies::function(&p.reply))).collect()
-}
-
-fn values_used(prototypes: &[&Prototype]) -> Vec<String> {
-    let numbers = prototypes.iter().flat_map(|p| p.rattle_parameters().filter(|v| v.pointer.is_none()).map(kind));
-    numbers.map(|kind| format!("crate::values::{}", value(kind))).collect()
 }

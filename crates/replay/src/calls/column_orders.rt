@@ -1,54 +1,51 @@
 // Written by host/replay-calls from include/taripomune.h.
-use crate::arguments::{Form, taken_by};
-use crate::calls::replies::of_u64;
-use crate::reply::{Reply, unknown};
-use crate::row::{MOST, Row};
-use crate::values::{signed_wide, wide, word};
+use crate::answer::Answer;
+use crate::line::Line;
 use taripomune::column_orders as calls;
 
-fn of_d_w(place: usize, n: [u64; MOST]) -> Reply {
-    let a0 = wide(n, 0);
-    let a1 = word(n, 1);
-    match place {
-        0 => of_u64(calls::tari_bit_reverse_index(a0, a1)),
-        1 => of_u64(calls::tari_coset_index_to_circle_domain_index(a0, a1)),
-        _ => unknown(),
-    }
+fn of_u64_u32(line: &Line<'_>) -> Option<Answer> {
+    let mut arguments = line.arguments();
+    let [a0] = arguments.take::<u64, 1>()?;
+    let [a1] = arguments.take::<u32, 1>()?;
+    arguments.end()?;
+    Some(match line.name {
+        "bit_reverse_index" => calls::tari_bit_reverse_index(a0, a1).into(),
+        "coset_index_to_circle_domain_index" => {
+            calls::tari_coset_index_to_circle_domain_index(a0, a1).into()
+        }
+        _ => return None,
+    })
 }
 
-fn of_d_2w(place: usize, n: [u64; MOST]) -> Reply {
-    let a0 = wide(n, 0);
-    let a1 = word(n, 1);
-    let a2 = word(n, 2);
-    match place {
-        2 => of_u64(calls::tari_previous_bit_reversed_circle_domain_index(a0, a1, a2)),
-        _ => unknown(),
-    }
+fn of_u64_2_u32(line: &Line<'_>) -> Option<Answer> {
+    let mut arguments = line.arguments();
+    let [a0] = arguments.take::<u64, 1>()?;
+    let [a1, a2] = arguments.take::<u32, 2>()?;
+    arguments.end()?;
+    Some(match line.name {
+        "previous_bit_reversed_circle_domain_index" => {
+            calls::tari_previous_bit_reversed_circle_domain_index(a0, a1, a2).into()
+        }
+        _ => return None,
+    })
 }
 
-fn of_d_2w_l(place: usize, n: [u64; MOST]) -> Reply {
-    let a0 = wide(n, 0);
-    let a1 = word(n, 1);
-    let a2 = word(n, 2);
-    let a3 = signed_wide(n, 3);
-    match place {
-        3 => of_u64(calls::tari_offset_bit_reversed_circle_domain_index(a0, a1, a2, a3)),
-        _ => unknown(),
-    }
+fn of_u64_2_u32_i64(line: &Line<'_>) -> Option<Answer> {
+    let mut arguments = line.arguments();
+    let [a0] = arguments.take::<u64, 1>()?;
+    let [a1, a2] = arguments.take::<u32, 2>()?;
+    let [a3] = arguments.take::<i64, 1>()?;
+    arguments.end()?;
+    Some(match line.name {
+        "offset_bit_reversed_circle_domain_index" => {
+            calls::tari_offset_bit_reversed_circle_domain_index(a0, a1, a2, a3).into()
+        }
+        _ => return None,
+    })
 }
 
-pub fn called(name: &[u8], row: Row) -> Reply {
-    let table = b"bit_reverse_index:dw \
-        coset_index_to_circle_domain_index:dw \
-        previous_bit_reversed_circle_domain_index:dww \
-        offset_bit_reversed_circle_domain_index:dwwl";
-    let a = taken_by(name, row, Form::Words, table);
-    let n = a.numbers;
-    let place = a.place;
-    match place {
-        0..=1 => of_d_w(place, n),
-        2 => of_d_2w(place, n),
-        3 => of_d_2w_l(place, n),
-        _ => unknown(),
-    }
+pub fn answer_of(line: &Line<'_>) -> Option<Answer> {
+    of_u64_u32(line)
+        .or_else(|| of_u64_2_u32(line))
+        .or_else(|| of_u64_2_u32_i64(line))
 }

@@ -1,5 +1,6 @@
 // Written by host/replay-calls from include/taripomune.h.
-use crate::reply::{Reply, reply_of, with_number, with_word};
+// An impl for each reply, some with the same text: C has a struct for each.
+use crate::answer::Answer;
 use taripomune::batch_reply::BatchReply;
 use taripomune::coset_reply::{
     CircleDomainIndexIteratorReply, CircleDomainStepReply, CosetIteratorReply, CosetReply,
@@ -10,130 +11,190 @@ use taripomune::reply::{
     U64Reply, WriteReply,
 };
 
-pub fn of_m31(r: M31Reply) -> Reply {
-    let mut reply = reply_of(r.number, r.position);
-    reply = with_word(reply, r.value);
-    reply
+impl From<M31Reply> for Answer {
+    fn from(r: M31Reply) -> Answer {
+        Answer::of_reply(&[
+            i128::from(r.number),
+            i128::from(r.position),
+            i128::from(r.value),
+        ])
+    }
 }
 
-pub fn of_bool(r: BoolReply) -> Reply {
-    let mut reply = reply_of(r.number, r.position);
-    reply = with_word(reply, r.value);
-    reply
+impl From<BoolReply> for Answer {
+    fn from(r: BoolReply) -> Answer {
+        Answer::of_reply(&[
+            i128::from(r.number),
+            i128::from(r.position),
+            i128::from(r.value),
+        ])
+    }
 }
 
-pub fn of_cm31(r: CM31Reply) -> Reply {
-    let mut reply = reply_of(r.number, r.position);
-    reply = with_word(reply, r.a);
-    reply = with_word(reply, r.b);
-    reply
+impl From<CM31Reply> for Answer {
+    fn from(r: CM31Reply) -> Answer {
+        Answer::of_reply(&[
+            i128::from(r.number),
+            i128::from(r.position),
+            i128::from(r.a),
+            i128::from(r.b),
+        ])
+    }
 }
 
-pub fn of_qm31(r: QM31Reply) -> Reply {
-    let mut reply = reply_of(r.number, r.position);
-    reply = with_word(reply, r.a);
-    reply = with_word(reply, r.b);
-    reply = with_word(reply, r.c);
-    reply = with_word(reply, r.d);
-    reply
+impl From<QM31Reply> for Answer {
+    fn from(r: QM31Reply) -> Answer {
+        Answer::of_reply(&[
+            i128::from(r.number),
+            i128::from(r.position),
+            i128::from(r.a),
+            i128::from(r.b),
+            i128::from(r.c),
+            i128::from(r.d),
+        ])
+    }
 }
 
-pub fn of_point(r: PointReply) -> Reply {
-    let mut reply = reply_of(r.number, r.position);
-    reply = with_word(reply, r.x);
-    reply = with_word(reply, r.y);
-    reply
+impl From<PointReply> for Answer {
+    fn from(r: PointReply) -> Answer {
+        Answer::of_reply(&[
+            i128::from(r.number),
+            i128::from(r.position),
+            i128::from(r.x),
+            i128::from(r.y),
+        ])
+    }
 }
 
-pub fn of_secure_point(r: SecurePointReply) -> Reply {
-    let mut reply = reply_of(r.number, r.position);
-    reply = with_word(reply, r.x0);
-    reply = with_word(reply, r.x1);
-    reply = with_word(reply, r.x2);
-    reply = with_word(reply, r.x3);
-    reply = with_word(reply, r.y0);
-    reply = with_word(reply, r.y1);
-    reply = with_word(reply, r.y2);
-    reply = with_word(reply, r.y3);
-    reply
+impl From<SecurePointReply> for Answer {
+    fn from(r: SecurePointReply) -> Answer {
+        Answer::of_reply(&[
+            i128::from(r.number),
+            i128::from(r.position),
+            i128::from(r.x0),
+            i128::from(r.x1),
+            i128::from(r.x2),
+            i128::from(r.x3),
+            i128::from(r.y0),
+            i128::from(r.y1),
+            i128::from(r.y2),
+            i128::from(r.y3),
+        ])
+    }
 }
 
-pub fn of_index(r: IndexReply) -> Reply {
-    let mut reply = reply_of(r.number, r.position);
-    reply = with_number(reply, r.index);
-    reply
+impl From<IndexReply> for Answer {
+    fn from(r: IndexReply) -> Answer {
+        Answer::of_reply(&[
+            i128::from(r.number),
+            i128::from(r.position),
+            i128::from(r.index),
+        ])
+    }
 }
 
-pub fn of_u32(r: U32Reply) -> Reply {
-    let mut reply = reply_of(r.number, r.position);
-    reply = with_word(reply, r.value);
-    reply
+impl From<U32Reply> for Answer {
+    fn from(r: U32Reply) -> Answer {
+        Answer::of_reply(&[
+            i128::from(r.number),
+            i128::from(r.position),
+            i128::from(r.value),
+        ])
+    }
 }
 
-pub fn of_u64(r: U64Reply) -> Reply {
-    let mut reply = reply_of(r.number, r.position);
-    reply = with_number(reply, r.value);
-    reply
+impl From<U64Reply> for Answer {
+    fn from(r: U64Reply) -> Answer {
+        Answer::of_reply(&[
+            i128::from(r.number),
+            i128::from(r.position),
+            i128::from(r.value),
+        ])
+    }
 }
 
-pub fn of_write(r: WriteReply) -> Reply {
-    reply_of(r.number, r.position)
+impl From<WriteReply> for Answer {
+    fn from(r: WriteReply) -> Answer {
+        Answer::of_reply(&[i128::from(r.number), i128::from(r.position)])
+    }
 }
 
-pub fn of_batch(r: BatchReply) -> Reply {
-    reply_of(r.number, r.position)
+impl From<BatchReply> for Answer {
+    fn from(r: BatchReply) -> Answer {
+        Answer::of_reply(&[i128::from(r.number), i128::from(r.position)])
+    }
 }
 
-pub fn of_coset(r: CosetReply) -> Reply {
-    let mut reply = reply_of(r.number, r.position);
-    reply = with_number(reply, r.initial_index);
-    reply = with_word(reply, r.initial_x);
-    reply = with_word(reply, r.initial_y);
-    reply = with_number(reply, r.step_index);
-    reply = with_word(reply, r.step_x);
-    reply = with_word(reply, r.step_y);
-    reply = with_word(reply, r.log_size);
-    reply
+impl From<CosetReply> for Answer {
+    fn from(r: CosetReply) -> Answer {
+        Answer::of_reply(&[
+            i128::from(r.number),
+            i128::from(r.position),
+            i128::from(r.initial_index),
+            i128::from(r.initial_x),
+            i128::from(r.initial_y),
+            i128::from(r.step_index),
+            i128::from(r.step_x),
+            i128::from(r.step_y),
+            i128::from(r.log_size),
+        ])
+    }
 }
 
-pub fn of_coset_iterator(r: CosetIteratorReply) -> Reply {
-    let mut reply = reply_of(r.number, r.position);
-    reply = with_number(reply, r.cur);
-    reply = with_number(reply, r.step);
-    reply = with_number(reply, r.remaining);
-    reply
+impl From<CosetIteratorReply> for Answer {
+    fn from(r: CosetIteratorReply) -> Answer {
+        Answer::of_reply(&[
+            i128::from(r.number),
+            i128::from(r.position),
+            i128::from(r.cur),
+            i128::from(r.step),
+            i128::from(r.remaining),
+        ])
+    }
 }
 
-pub fn of_coset_step(r: CosetStepReply) -> Reply {
-    let mut reply = reply_of(r.number, r.position);
-    reply = with_word(reply, r.done);
-    reply = with_number(reply, r.index);
-    reply = with_number(reply, r.cur);
-    reply = with_number(reply, r.step);
-    reply = with_number(reply, r.remaining);
-    reply
+impl From<CosetStepReply> for Answer {
+    fn from(r: CosetStepReply) -> Answer {
+        Answer::of_reply(&[
+            i128::from(r.number),
+            i128::from(r.position),
+            i128::from(r.done),
+            i128::from(r.index),
+            i128::from(r.cur),
+            i128::from(r.step),
+            i128::from(r.remaining),
+        ])
+    }
 }
 
-pub fn of_circle_domain_index_iterator(r: CircleDomainIndexIteratorReply) -> Reply {
-    let mut reply = reply_of(r.number, r.position);
-    reply = with_number(reply, r.first_cur);
-    reply = with_number(reply, r.first_step);
-    reply = with_number(reply, r.first_remaining);
-    reply = with_number(reply, r.second_cur);
-    reply = with_number(reply, r.second_step);
-    reply = with_number(reply, r.second_remaining);
-    reply
+impl From<CircleDomainIndexIteratorReply> for Answer {
+    fn from(r: CircleDomainIndexIteratorReply) -> Answer {
+        Answer::of_reply(&[
+            i128::from(r.number),
+            i128::from(r.position),
+            i128::from(r.first_cur),
+            i128::from(r.first_step),
+            i128::from(r.first_remaining),
+            i128::from(r.second_cur),
+            i128::from(r.second_step),
+            i128::from(r.second_remaining),
+        ])
+    }
 }
 
-pub fn of_circle_domain_step(r: CircleDomainStepReply) -> Reply {
-    let mut reply = reply_of(r.number, r.position);
-    reply = with_word(reply, r.done);
-    reply = with_number(reply, r.index);
-    reply = with_number(reply, r.first_cur);
-    reply = with_number(reply, r.first_step);
-    reply = with_number(reply, r.first_remaining);
-    reply = with_number(reply, r.second_cur);
-    reply = with_number(reply, r.second_step);
-    reply = with_number(reply, r.second_remaining);
-    reply
+impl From<CircleDomainStepReply> for Answer {
+    fn from(r: CircleDomainStepReply) -> Answer {
+        Answer::of_reply(&[
+            i128::from(r.number),
+            i128::from(r.position),
+            i128::from(r.done),
+            i128::from(r.index),
+            i128::from(r.first_cur),
+            i128::from(r.first_step),
+            i128::from(r.first_remaining),
+            i128::from(r.second_cur),
+            i128::from(r.second_step),
+            i128::from(r.second_remaining),
+        ])
+    }
 }

@@ -1,166 +1,123 @@
 // Written by host/replay-calls from include/taripomune.h.
-use crate::arguments::{Form, taken_by};
-use crate::calls::replies::{of_qm31, of_secure_point};
-use crate::reply::{Reply, unknown};
-use crate::row::{MOST, Row};
-use crate::values::{signed_wide, wide, word};
+use crate::answer::Answer;
+use crate::line::Line;
 use taripomune::secure_point as calls;
 
-fn of_none(place: usize) -> Reply {
-    match place {
-        0 => of_secure_point(calls::tari_secure_point_zero()),
-        _ => unknown(),
-    }
+fn of_none(line: &Line<'_>) -> Option<Answer> {
+    let arguments = line.arguments();
+    arguments.end()?;
+    Some(match line.name {
+        "secure_point_zero" => calls::tari_secure_point_zero().into(),
+        _ => return None,
+    })
 }
 
-fn of_2d(place: usize, n: [u64; MOST]) -> Reply {
-    let a0 = wide(n, 0);
-    let a1 = wide(n, 1);
-    match place {
-        1 => of_secure_point(calls::tari_secure_point_get_point(a0, a1)),
-        _ => unknown(),
-    }
+fn of_2_u64(line: &Line<'_>) -> Option<Answer> {
+    let mut arguments = line.arguments();
+    let [a0, a1] = arguments.take::<u64, 2>()?;
+    arguments.end()?;
+    Some(match line.name {
+        "secure_point_get_point" => calls::tari_secure_point_get_point(a0, a1).into(),
+        _ => return None,
+    })
 }
 
-fn of_4w(place: usize, n: [u64; MOST]) -> Reply {
-    let a0 = word(n, 0);
-    let a1 = word(n, 1);
-    let a2 = word(n, 2);
-    let a3 = word(n, 3);
-    match place {
-        2 => of_qm31(calls::tari_secure_point_double_x(a0, a1, a2, a3)),
-        _ => unknown(),
-    }
+fn of_4_u32(line: &Line<'_>) -> Option<Answer> {
+    let mut arguments = line.arguments();
+    let [a0, a1, a2, a3] = arguments.take::<u32, 4>()?;
+    arguments.end()?;
+    Some(match line.name {
+        "secure_point_double_x" => calls::tari_secure_point_double_x(a0, a1, a2, a3).into(),
+        _ => return None,
+    })
 }
 
-fn of_8w(place: usize, n: [u64; MOST]) -> Reply {
-    let a0 = word(n, 0);
-    let a1 = word(n, 1);
-    let a2 = word(n, 2);
-    let a3 = word(n, 3);
-    let a4 = word(n, 4);
-    let a5 = word(n, 5);
-    let a6 = word(n, 6);
-    let a7 = word(n, 7);
-    match place {
-        3 => of_secure_point(calls::tari_secure_point_neg(a0, a1, a2, a3, a4, a5, a6, a7)),
-        4 => of_secure_point(calls::tari_secure_point_double(a0, a1, a2, a3, a4, a5, a6, a7)),
-        5 => of_secure_point(calls::tari_secure_point_conjugate(a0, a1, a2, a3, a4, a5, a6, a7)),
-        6 => of_secure_point(calls::tari_secure_point_antipode(a0, a1, a2, a3, a4, a5, a6, a7)),
-        7 => of_secure_point(calls::tari_secure_point_complex_conjugate(
-            a0, a1, a2, a3, a4, a5, a6, a7,
-        )),
-        _ => unknown(),
-    }
+fn of_8_u32(line: &Line<'_>) -> Option<Answer> {
+    let mut arguments = line.arguments();
+    let [a0, a1, a2, a3, a4, a5, a6, a7] = arguments.take::<u32, 8>()?;
+    arguments.end()?;
+    Some(match line.name {
+        "secure_point_neg" => calls::tari_secure_point_neg(a0, a1, a2, a3, a4, a5, a6, a7).into(),
+        "secure_point_double" => {
+            calls::tari_secure_point_double(a0, a1, a2, a3, a4, a5, a6, a7).into()
+        }
+        "secure_point_conjugate" => {
+            calls::tari_secure_point_conjugate(a0, a1, a2, a3, a4, a5, a6, a7).into()
+        }
+        "secure_point_antipode" => {
+            calls::tari_secure_point_antipode(a0, a1, a2, a3, a4, a5, a6, a7).into()
+        }
+        "secure_point_complex_conjugate" => {
+            calls::tari_secure_point_complex_conjugate(a0, a1, a2, a3, a4, a5, a6, a7).into()
+        }
+        _ => return None,
+    })
 }
 
-fn of_8w_l(place: usize, n: [u64; MOST]) -> Reply {
-    let a0 = word(n, 0);
-    let a1 = word(n, 1);
-    let a2 = word(n, 2);
-    let a3 = word(n, 3);
-    let a4 = word(n, 4);
-    let a5 = word(n, 5);
-    let a6 = word(n, 6);
-    let a7 = word(n, 7);
-    let a8 = signed_wide(n, 8);
-    match place {
-        8 => of_secure_point(calls::tari_secure_point_mul_signed(
-            a0, a1, a2, a3, a4, a5, a6, a7, a8,
-        )),
-        _ => unknown(),
-    }
+fn of_8_u32_u32(line: &Line<'_>) -> Option<Answer> {
+    let mut arguments = line.arguments();
+    let [a0, a1, a2, a3, a4, a5, a6, a7] = arguments.take::<u32, 8>()?;
+    let [a8] = arguments.take::<u32, 1>()?;
+    arguments.end()?;
+    Some(match line.name {
+        "secure_point_repeated_double" => {
+            calls::tari_secure_point_repeated_double(a0, a1, a2, a3, a4, a5, a6, a7, a8).into()
+        }
+        _ => return None,
+    })
 }
 
-fn of_9w(place: usize, n: [u64; MOST]) -> Reply {
-    let a0 = word(n, 0);
-    let a1 = word(n, 1);
-    let a2 = word(n, 2);
-    let a3 = word(n, 3);
-    let a4 = word(n, 4);
-    let a5 = word(n, 5);
-    let a6 = word(n, 6);
-    let a7 = word(n, 7);
-    let a8 = word(n, 8);
-    match place {
-        9 => of_secure_point(calls::tari_secure_point_repeated_double(
-            a0, a1, a2, a3, a4, a5, a6, a7, a8,
-        )),
-        _ => unknown(),
-    }
+fn of_8_u32_i64(line: &Line<'_>) -> Option<Answer> {
+    let mut arguments = line.arguments();
+    let [a0, a1, a2, a3, a4, a5, a6, a7] = arguments.take::<u32, 8>()?;
+    let [a8] = arguments.take::<i64, 1>()?;
+    arguments.end()?;
+    Some(match line.name {
+        "secure_point_mul_signed" => {
+            calls::tari_secure_point_mul_signed(a0, a1, a2, a3, a4, a5, a6, a7, a8).into()
+        }
+        _ => return None,
+    })
 }
 
-fn of_8w_2d(place: usize, n: [u64; MOST]) -> Reply {
-    let a0 = word(n, 0);
-    let a1 = word(n, 1);
-    let a2 = word(n, 2);
-    let a3 = word(n, 3);
-    let a4 = word(n, 4);
-    let a5 = word(n, 5);
-    let a6 = word(n, 6);
-    let a7 = word(n, 7);
-    let a8 = wide(n, 8);
-    let a9 = wide(n, 9);
-    match place {
-        10 => of_secure_point(calls::tari_secure_point_mul(a0, a1, a2, a3, a4, a5, a6, a7, a8, a9)),
-        _ => unknown(),
-    }
+fn of_8_u32_2_u64(line: &Line<'_>) -> Option<Answer> {
+    let mut arguments = line.arguments();
+    let [a0, a1, a2, a3, a4, a5, a6, a7] = arguments.take::<u32, 8>()?;
+    let [a8, a9] = arguments.take::<u64, 2>()?;
+    arguments.end()?;
+    Some(match line.name {
+        "secure_point_mul" => {
+            calls::tari_secure_point_mul(a0, a1, a2, a3, a4, a5, a6, a7, a8, a9).into()
+        }
+        _ => return None,
+    })
 }
 
-fn of_16w(place: usize, n: [u64; MOST]) -> Reply {
-    let a0 = word(n, 0);
-    let a1 = word(n, 1);
-    let a2 = word(n, 2);
-    let a3 = word(n, 3);
-    let a4 = word(n, 4);
-    let a5 = word(n, 5);
-    let a6 = word(n, 6);
-    let a7 = word(n, 7);
-    let a8 = word(n, 8);
-    let a9 = word(n, 9);
-    let a10 = word(n, 10);
-    let a11 = word(n, 11);
-    let a12 = word(n, 12);
-    let a13 = word(n, 13);
-    let a14 = word(n, 14);
-    let a15 = word(n, 15);
-    match place {
-        11 => of_secure_point(calls::tari_secure_point_add(
+fn of_8_u32_8_u32(line: &Line<'_>) -> Option<Answer> {
+    let mut arguments = line.arguments();
+    let [a0, a1, a2, a3, a4, a5, a6, a7] = arguments.take::<u32, 8>()?;
+    let [a8, a9, a10, a11, a12, a13, a14, a15] = arguments.take::<u32, 8>()?;
+    arguments.end()?;
+    Some(match line.name {
+        "secure_point_add" => calls::tari_secure_point_add(
             a0, a1, a2, a3, a4, a5, a6, a7, a8, a9, a10, a11, a12, a13, a14, a15,
-        )),
-        12 => of_secure_point(calls::tari_secure_point_sub(
+        )
+        .into(),
+        "secure_point_sub" => calls::tari_secure_point_sub(
             a0, a1, a2, a3, a4, a5, a6, a7, a8, a9, a10, a11, a12, a13, a14, a15,
-        )),
-        _ => unknown(),
-    }
+        )
+        .into(),
+        _ => return None,
+    })
 }
 
-pub fn called(name: &[u8], row: Row) -> Reply {
-    let table = b"secure_point_zero: \
-        secure_point_get_point:dd \
-        secure_point_double_x:wwww \
-        secure_point_neg:wwwwwwww \
-        secure_point_double:wwwwwwww \
-        secure_point_conjugate:wwwwwwww \
-        secure_point_antipode:wwwwwwww \
-        secure_point_complex_conjugate:wwwwwwww \
-        secure_point_mul_signed:wwwwwwwwl \
-        secure_point_repeated_double:wwwwwwwww \
-        secure_point_mul:wwwwwwwwdd \
-        secure_point_add:wwwwwwwwwwwwwwww \
-        secure_point_sub:wwwwwwwwwwwwwwww";
-    let a = taken_by(name, row, Form::Words, table);
-    let n = a.numbers;
-    let place = a.place;
-    match place {
-        0 => of_none(place),
-        1 => of_2d(place, n),
-        2 => of_4w(place, n),
-        3..=7 => of_8w(place, n),
-        8 => of_8w_l(place, n),
-        9 => of_9w(place, n),
-        10 => of_8w_2d(place, n),
-        11..=12 => of_16w(place, n),
-        _ => unknown(),
-    }
+pub fn answer_of(line: &Line<'_>) -> Option<Answer> {
+    of_none(line)
+        .or_else(|| of_2_u64(line))
+        .or_else(|| of_4_u32(line))
+        .or_else(|| of_8_u32(line))
+        .or_else(|| of_8_u32_u32(line))
+        .or_else(|| of_8_u32_i64(line))
+        .or_else(|| of_8_u32_2_u64(line))
+        .or_else(|| of_8_u32_8_u32(line))
 }

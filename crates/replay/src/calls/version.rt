@@ -1,23 +1,17 @@
 // Written by host/replay-calls from include/taripomune.h.
-use crate::arguments::{Form, taken_by};
-use crate::calls::replies::of_u32;
-use crate::reply::{Reply, unknown};
-use crate::row::Row;
+use crate::answer::Answer;
+use crate::line::Line;
 use taripomune::version as calls;
 
-fn of_none(place: usize) -> Reply {
-    match place {
-        0 => of_u32(calls::tari_version()),
-        _ => unknown(),
-    }
+fn of_none(line: &Line<'_>) -> Option<Answer> {
+    let arguments = line.arguments();
+    arguments.end()?;
+    Some(match line.name {
+        "version" => calls::tari_version().into(),
+        _ => return None,
+    })
 }
 
-pub fn called(name: &[u8], row: Row) -> Reply {
-    let table = b"version:";
-    let a = taken_by(name, row, Form::Words, table);
-    let place = a.place;
-    match place {
-        0 => of_none(place),
-        _ => unknown(),
-    }
+pub fn answer_of(line: &Line<'_>) -> Option<Answer> {
+    of_none(line)
 }

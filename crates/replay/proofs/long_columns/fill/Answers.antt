@@ -1,5 +1,0 @@
-use Rattle.std.proofs.Common.{arith, length-set}
-use Rattle.replay.proofs.long_columns.fill.Goals as goal
-
-pub loop-i-preserved : goal.loop-i-preserved
-loop-i-preserved c = simp length-set (omega arith)

@@ -1,6 +1,0 @@
-use Rattle.std.proofs.Common.{◌-◌, arith, w32}
-use Rattle.replay.proofs.Signed.{minus_one_fits}
-use Rattle.replay.proofs.values.signed_of.Goals as goal
-
-pub overflow_sub-result : goal.overflow_sub-result
-overflow_sub-result c = minus_one_fits w32 (18446744073709551615 - c.args.x) (omega arith)
