@@ -1,6 +1,6 @@
 -- A listing written word by word over the start of a list.
-use Rattle.std.specs.Prelude.{ℕ, zero, suc, ◌+◌, ◌*◌, ◌%◌, ◌^◌, ◌<◌, ◌≡◌, List, [], ◌∷◌, ◌++◌, length, drop, refl}
-use Rattle.std.proofs.Common.{ap, add-one, arith}
+use Rattle.std.specs.Prelude.{ℕ, zero, suc, ◌+◌, ◌<◌, ◌≡◌, List, [], ◌∷◌, ◌++◌, length, drop, refl}
+use Rattle.std.proofs.Common.{ap, add-one}
 use Rattle.std.proofs.Math.Nat as N
 use Rattle.std.proofs.Math.ListN.{set}
 use Rattle.algebra.specs.Listing.{listing}
@@ -19,8 +19,4 @@ pub listing_next : (f : ℕ → ℕ) (i v : ℕ) (l m : List ℕ) → m ≡ list
     (i + 1) f ++ drop (i + 1) l
 listing_next f i v l m e g h = rw (e, g, add-one) (next f i l h)
 
--- one more times step
-pub next_multiple : (step i k r : ℕ) → k ≡ (step * i) % 2 ^ 31 → r ≡ (k + step) % 2 ^ 31 → r ≡ (step * (i + 1)) % 2 ^ 31
-next_multiple step i k r e f = omega arith
-
-pub ruleset shifts = (listing_none, listing_next, next_multiple)
+pub ruleset shifts = (listing_none, listing_next)

@@ -55,10 +55,8 @@ fn write_shifts(step: CirclePointIndex, parts: u64, shifts: &mut [u32])
     requires { parts ≤ length shifts.old }
     ensures { shifts.new ≡ listing parts (λ i. (step.0 * i) % 2 ^ 31) ++ drop parts shifts.old }
 {
-    let mut next = CirclePointIndex::zero();
-    for shift in &mut shifts[..parts as usize] {
-        *shift = next.0 as u32;
-        next = index::add(next, step);
+    for (i, shift) in shifts[..parts as usize].iter_mut().enumerate() {
+        *shift = index::mul(step, i as u64).0 as u32;
     }
 }
 

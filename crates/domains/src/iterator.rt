@@ -1,12 +1,11 @@
 // Iterators over the indices of a coset and of a circle domain (stwo's CosetIterator<CirclePointIndex> and
 // CircleDomainIndexIterator). They are passed by value, as they cross the C interface, and a step can be refused: so `next`
 // hands back the iterator after it, which Rust's Iterator doesn't.
-ghost use Rattle.std.specs.Prelude.{◌≡◌, ◌≤◌};
+ghost use Rattle.std.specs.Prelude.{◌≡◌};
 ghost use Rattle.fields.specs.Check.{outcome};
 ghost use Rattle.domains.specs.Coset.{iterator_of};
 ghost use Rattle.domains.specs.Iterator.{check, stepped, next_answer, domain_next_answer};
 
-use crate::coset::Coset;
 use crate::coset::checked::CheckedCoset;
 use circle::index::{CirclePointIndex, inner as index};
 use fields::log_size::inner::two_to;
@@ -19,28 +18,22 @@ pub struct CosetIterator {
     pub remaining: u64,
 }
 
+// Over the indices of the coset.
 impl From<CheckedCoset> for CosetIterator {
     ghost from_gives = { λ c it. it ≡ iterator_of c.coset };
 
-    fn from(c: CheckedCoset) -> CosetIterator {
-        CosetIterator::of(c.coset)
-    }
-}
-
-impl CosetIterator {
-    // Over the indices of a coset of at most 2^31 points.
     #[tactic(auto, unfolding(crate::specs::Coset::iterator_of))]
-    pub fn of(c: Coset) -> CosetIterator
-        requires { c.log_size ≤ 31 }
-        ensures { result ≡ iterator_of c }
-    {
+    fn from(c: CheckedCoset) -> CosetIterator {
+        let c = c.coset;
         CosetIterator {
             cur: c.initial_index,
             step: c.step_size,
             remaining: two_to(c.log_size),
         }
     }
+}
 
+impl CosetIterator {
     fn check(self) -> Result<(), Refusal>
         ensures { result ≡ outcome (check self) }
     {

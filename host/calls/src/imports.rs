@@ -26,14 +26,8 @@ impl Imports {
     /// The imports of a file; other lines are passed over.
     pub fn read(text: &str) -> Imports {
         let mut imports = Imports::default();
-        let mut lines = text.lines();
-        while let Some(line) = lines.next() {
-            let Some(start) = line.trim_start_matches("ghost ").strip_prefix("use ") else { continue };
-            let mut import = start.to_string();
-            while import.contains('{') && !import.contains('}') {
-                import += lines.next().expect("a list of names ends");
-            }
-            imports.add(import.trim_end_matches(';'));
+        for import in lines_of(text) {
+            imports.add(&import);
         }
         imports
     }
@@ -46,7 +40,7 @@ impl Imports {
         } else if let Some((path, names)) = import.split_once(".{")
             && let Some(module) = module_of(path)
         {
-            for name in names.trim_end_matches('}').split(',').map(str::trim).filter(|name| !name.is_empty()) {
+            for name in listed(names) {
                 self.names.insert(name.to_string(), module.clone());
             }
         }
@@ -69,6 +63,35 @@ impl Imports {
         let (alias, name) = word.split_once('.')?;
         Some((self.aliases.get(alias)?.clone(), name))
     }
+}
+
+/// What stands behind `use` in a file, each import as one line.
+fn lines_of(text: &str) -> Vec<String> {
+    let mut found = vec![];
+    let mut lines = text.lines();
+    while let Some(line) = lines.next() {
+        let Some(start) = line.trim_start_matches("ghost ").strip_prefix("use ") else { continue };
+        let mut import = start.to_string();
+        while import.contains('{') && !import.contains('}') {
+            import += lines.next().expect("a list of names ends");
+        }
+        found.push(import.trim_end_matches(';').to_string());
+    }
+    found
+}
+
+/// The names of a list in braces, whose first brace is off.
+fn listed(names: &str) -> impl Iterator<Item = &str> {
+    names.trim_end_matches('}').split(',').map(str::trim).filter(|name| !name.is_empty())
+}
+
+/// The words that the lists of a file take from the checker's library; of an operator its signs.
+pub fn of_library(text: &str) -> Vec<String> {
+    let imports = lines_of(text);
+    let lists = imports.iter().filter_map(|import| import.split_once(".{"));
+    let library = lists.filter(|(path, _)| !path.starts_with("Rattle.") || path.starts_with("Rattle.std."));
+    let signs = library.flat_map(|(_, names)| listed(names)).flat_map(|name| name.split('◌'));
+    signs.filter(|sign| !sign.is_empty()).map(str::to_string).collect()
 }
 
 /// `Rattle.fields.specs.Check`.

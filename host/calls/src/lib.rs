@@ -5,6 +5,7 @@
 
 mod declared;
 mod entry_points;
+mod glossary;
 mod imports;
 mod page;
 mod refusals;
@@ -29,7 +30,10 @@ pub fn page(root: &Path) -> Result<String, String> {
     let (by_hand, _) = page.split_once(MARK).ok_or("docs/CALLS.md has no line that ends what is written by hand")?;
     same_refusals(by_hand, &header, &specs)?;
     let list = Page { header: &header, specs: &specs, entry_points: &entry_points::read(root) }.write()?;
-    Ok(format!("{by_hand}{MARK}{list}"))
+    match glossary::lacks(root, by_hand, &list) {
+        lacks if lacks.is_empty() => Ok(format!("{by_hand}{MARK}{list}")),
+        lacks => Err(format!("the glossary of docs/CALLS.md lacks words of the checker's library: {lacks:?}")),
+    }
 }
 
 /// The table by hand and the header's names have the refusals of the specs, in their order.
