@@ -1,5 +1,5 @@
-//! `docs/CALLS.md` is what its program writes from the header, the entry points and the specs, and `docs/DIFFERENCES.md`
-//! has a row for every refusal of every call.
+//! `docs/CALLS.md` is what its program writes from the header, the entry points and the specs, with a glossary of the
+//! library's words, and `docs/DIFFERENCES.md` has a row for every refusal of every call.
 
 use std::collections::{BTreeMap, BTreeSet};
 use std::fs;
@@ -14,6 +14,17 @@ fn the_list_of_calls_is_as_written() {
     let differs = expected.lines().zip(found.lines()).position(|(expected, found)| expected != found);
     let line = differs.map_or("its end".to_string(), |at| format!("line {}", at + 1));
     assert!(expected == found, "docs/CALLS.md is stale at {line}: run cargo run -p taripomune-calls in host/");
+}
+
+#[test]
+fn a_word_of_the_library_that_the_glossary_lacks_is_an_error() {
+    let root = Path::new(env!("CARGO_MANIFEST_DIR")).join("..");
+    let page = fs::read_to_string(root.join("docs/CALLS.md")).unwrap();
+    for (row, word) in [("| `nat_lt a b`", "nat_eq"), ("| `is_negative z`", "unsigned_abs"), ("| `a ≡ b`", "<")] {
+        let others: Vec<&str> = page.lines().filter(|line| !line.starts_with(row)).collect();
+        let error = taripomune_calls::rewritten(&root, &others.join("\n")).unwrap_err();
+        assert!(error.contains(&format!("{word:?}")), "without the row of {word}: {error}");
+    }
 }
 
 /// The refusals of each function in the rows of the smallest inputs, in their order.

@@ -1,7 +1,8 @@
 //! The types that the code of a crate declares, which its specs speak of.
 
 use crate::imports::Module;
-use crate::specs::{Definition, Key};
+use crate::specs::{Definition, Key, Named};
+use std::collections::BTreeMap;
 use std::fs;
 use std::path::Path;
 
@@ -10,6 +11,26 @@ pub fn types(root: &Path, krate: &str) -> Vec<(Key, Definition)> {
     let mut found = vec![];
     read_folder(&root.join("crates").join(krate).join("src"), krate, &[], &mut found);
     found
+}
+
+/// Has each declared type name those that its fields are of: no two have one name.
+pub fn name_types_of_fields(definitions: &mut BTreeMap<Key, Definition>) {
+    let types: Vec<Key> =
+        definitions.keys().filter(|(module, _)| module.name.starts_with("declared.")).cloned().collect();
+    for key in &types {
+        let definition = definitions.get_mut(key).expect("a type is a definition");
+        let code = definition.text.iter().filter(|line| !line.trim_start().starts_with("//"));
+        let words = code.flat_map(|line| line.split(|c: char| !c.is_alphanumeric() && c != '_'));
+        let named = words.filter_map(|word| types.iter().find(|other| other.1 == word));
+        let mut names: Vec<Named> = vec![];
+        for other in named.filter(|other| *other != key) {
+            let named = Named { key: other.clone(), word: other.1.clone() };
+            if !names.contains(&named) {
+                names.push(named);
+            }
+        }
+        definition.names = names;
+    }
 }
 
 fn read_folder(folder: &Path, krate: &str, above: &[String], found: &mut Vec<(Key, Definition)>) {

@@ -2,7 +2,7 @@
 
 use std::collections::HashMap;
 
-/// A module of a crate's specs, such as `Check` of `fields`.
+/// A module of a crate's specs, such as `Check` of `fields`, or of the checker's library.
 #[derive(Clone, Debug, PartialEq, Eq, Hash, PartialOrd, Ord)]
 pub struct Module {
     pub crate_name: String,
@@ -15,7 +15,7 @@ impl Module {
     }
 }
 
-/// The names that a file takes from modules of specs.
+/// The names that a file takes from modules of specs and of the library.
 #[derive(Default)]
 pub struct Imports {
     names: HashMap<String, Module>,
@@ -26,8 +26,14 @@ impl Imports {
     /// The imports of a file; other lines are passed over.
     pub fn read(text: &str) -> Imports {
         let mut imports = Imports::default();
-        for import in lines_of(text) {
-            imports.add(&import);
+        let mut lines = text.lines();
+        while let Some(line) = lines.next() {
+            let Some(start) = line.trim_start_matches("ghost ").strip_prefix("use ") else { continue };
+            let mut import = start.to_string();
+            while import.contains('{') && !import.contains('}') {
+                import += lines.next().expect("a list of names ends");
+            }
+            imports.add(import.trim_end_matches(';'));
         }
         imports
     }
@@ -40,7 +46,9 @@ impl Imports {
         } else if let Some((path, names)) = import.split_once(".{")
             && let Some(module) = module_of(path)
         {
-            for name in listed(names) {
+            // An operator is written by its signs, without the places of its arguments.
+            let names = names.trim_end_matches('}').split(',').flat_map(|name| name.split('◌'));
+            for name in names.map(str::trim).filter(|name| !name.is_empty()) {
                 self.names.insert(name.to_string(), module.clone());
             }
         }
@@ -55,7 +63,7 @@ impl Imports {
         }
     }
 
-    /// The module and the name in it that a word of the file stands for, if it is taken from specs.
+    /// The module and the name in it that a word of the file stands for, if it is taken from one.
     pub fn resolve<'a>(&self, word: &'a str) -> Option<(Module, &'a str)> {
         if let Some(module) = self.names.get(word) {
             return Some((module.clone(), word));
@@ -65,37 +73,14 @@ impl Imports {
     }
 }
 
-/// What stands behind `use` in a file, each import as one line.
-fn lines_of(text: &str) -> Vec<String> {
-    let mut found = vec![];
-    let mut lines = text.lines();
-    while let Some(line) = lines.next() {
-        let Some(start) = line.trim_start_matches("ghost ").strip_prefix("use ") else { continue };
-        let mut import = start.to_string();
-        while import.contains('{') && !import.contains('}') {
-            import += lines.next().expect("a list of names ends");
-        }
-        found.push(import.trim_end_matches(';').to_string());
-    }
-    found
-}
-
-/// The names of a list in braces, whose first brace is off.
-fn listed(names: &str) -> impl Iterator<Item = &str> {
-    names.trim_end_matches('}').split(',').map(str::trim).filter(|name| !name.is_empty())
-}
-
-/// The words that the lists of a file take from the checker's library; of an operator its signs.
-pub fn of_library(text: &str) -> Vec<String> {
-    let imports = lines_of(text);
-    let lists = imports.iter().filter_map(|import| import.split_once(".{"));
-    let library = lists.filter(|(path, _)| !path.starts_with("Rattle.") || path.starts_with("Rattle.std."));
-    let signs = library.flat_map(|(_, names)| listed(names)).flat_map(|name| name.split('◌'));
-    signs.filter(|sign| !sign.is_empty()).map(str::to_string).collect()
-}
-
-/// `Rattle.fields.specs.Check`.
+/// `Rattle.fields.specs.Check`; the library has also `Rattle.std.proofs.Common`, `lib.ListN` and the like.
 fn module_of(path: &str) -> Option<Module> {
-    let (crate_name, name) = path.trim().strip_prefix("Rattle.")?.split_once(".specs.")?;
-    Some(Module::new(crate_name, name))
+    let path = path.trim();
+    match path.strip_prefix("Rattle.") {
+        Some(path) => {
+            let of_library = || path.split_once(".proofs.").filter(|(crate_name, _)| *crate_name == "std");
+            path.split_once(".specs.").or_else(of_library).map(|(crate_name, name)| Module::new(crate_name, name))
+        }
+        None => path.split_once('.').map(|(library, name)| Module::new(library, name)),
+    }
 }

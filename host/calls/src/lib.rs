@@ -23,17 +23,26 @@ pub const MARK: &str =
 
 /// The page as it should be: what is written by hand, then the list.
 pub fn page(root: &Path) -> Result<String, String> {
-    let read = |file: &str| fs::read_to_string(root.join(file)).map_err(|error| format!("{file}: {error}"));
-    let header = Header::read(&read("include/taripomune.h")?);
+    rewritten(root, &read(root, "docs/CALLS.md")?)
+}
+
+/// This page with its list made anew.
+pub fn rewritten(root: &Path, page: &str) -> Result<String, String> {
+    let header = Header::read(&read(root, "include/taripomune.h")?);
     let specs = Specs::read(root);
-    let page = read("docs/CALLS.md")?;
     let (by_hand, _) = page.split_once(MARK).ok_or("docs/CALLS.md has no line that ends what is written by hand")?;
     same_refusals(by_hand, &header, &specs)?;
-    let list = Page { header: &header, specs: &specs, entry_points: &entry_points::read(root) }.write()?;
-    match glossary::lacks(root, by_hand, &list) {
-        lacks if lacks.is_empty() => Ok(format!("{by_hand}{MARK}{list}")),
-        lacks => Err(format!("the glossary of docs/CALLS.md lacks words of the checker's library: {lacks:?}")),
+    let page = Page { header: &header, specs: &specs, entry_points: &entry_points::read(root) };
+    let lacks = glossary::lacks(by_hand, page.library_words());
+    if !lacks.is_empty() {
+        return Err(format!("the glossary of docs/CALLS.md lacks words of the checker's library: {lacks:?}"));
     }
+    let list = page.write()?;
+    Ok(format!("{by_hand}{MARK}{list}"))
+}
+
+fn read(root: &Path, file: &str) -> Result<String, String> {
+    fs::read_to_string(root.join(file)).map_err(|error| format!("{file}: {error}"))
 }
 
 /// The table by hand and the header's names have the refusals of the specs, in their order.

@@ -13,6 +13,25 @@ pub struct Page<'a> {
 }
 
 impl Page<'_> {
+    /// The words of the checker's library in the contracts, in the definitions that they use, and so on.
+    pub fn library_words(&self) -> BTreeSet<&str> {
+        let own: BTreeSet<&str> = self.specs.definitions.keys().map(|(module, _)| module.crate_name.as_str()).collect();
+        let mut open: Vec<&Named> = self.entry_points.iter().flat_map(|entry| &entry.names).collect();
+        let mut seen: BTreeSet<&Key> = BTreeSet::new();
+        let mut found = BTreeSet::new();
+        while let Some(Named { key, .. }) = open.pop() {
+            if !seen.insert(key) {
+                continue;
+            }
+            if let Some(definition) = self.specs.definitions.get(key) {
+                open.extend(&definition.names);
+            } else if !own.contains(key.0.crate_name.as_str()) {
+                found.insert(key.1.as_str());
+            }
+        }
+        found
+    }
+
     /// The calls by the header's sections, then the definitions that theirs use. A call that the header and the
     /// contracts tell differently is an error.
     pub fn write(&self) -> Result<String, String> {

@@ -46,6 +46,7 @@ impl Specs {
             }
             specs.definitions.extend(declared::types(root, &krate));
         }
+        declared::name_types_of_fields(&mut specs.definitions);
         specs
     }
 
@@ -85,7 +86,7 @@ impl Specs {
 }
 
 /// The names of what a folder holds; none where there is no such folder.
-pub fn names_in(folder: &Path) -> Vec<String> {
+fn names_in(folder: &Path) -> Vec<String> {
     let entries = fs::read_dir(folder).into_iter().flatten();
     let mut names: Vec<String> = entries.map(|entry| entry.unwrap().file_name().into_string().unwrap()).collect();
     names.sort();
