@@ -49,7 +49,8 @@ fn is_canonic(initial: CirclePointIndex, step: CirclePointIndex) -> bool
     }
 }
 
-// step times 0, 1, .. up to so many parts
+// step times 0, 1, .. up to so many parts. Each comes from its place and none waits for the one before, so that the loop is
+// vector code.
 #[tactic(auto, using(crate::proofs::Shifts::shifts))]
 fn write_shifts(step: CirclePointIndex, parts: u64, shifts: &mut [u32])
     requires { parts ≤ length shifts.old }

@@ -13,7 +13,7 @@ pub fn types(root: &Path, krate: &str) -> Vec<(Key, Definition)> {
     found
 }
 
-/// Has each declared type name those that its fields are of: no two have one name.
+/// Lets each declared type name the types of its fields. No two types have the same name.
 pub fn name_types_of_fields(definitions: &mut BTreeMap<Key, Definition>) {
     let types: Vec<Key> =
         definitions.keys().filter(|(module, _)| module.name.starts_with("declared.")).cloned().collect();
